@@ -1,0 +1,4 @@
+//! A node of the machine without debugger.
+#![tactic(auto)]
+
+mod lines;
