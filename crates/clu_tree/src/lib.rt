@@ -1,6 +1,7 @@
 //! Tokens and syntax trees of programs, as plain data, and the relations that say how a text reads as a tree.
 #![tactic(auto)]
 
+pub mod copies;
 mod lexeme;
 pub mod make;
 mod op;
