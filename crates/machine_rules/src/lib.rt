@@ -1,0 +1,16 @@
+//! What a process keeps, what one step of it does, and the law that a process of a typed program is never stuck.
+#![tactic(auto)]
+
+mod act;
+mod frame;
+mod item;
+mod law;
+mod obj;
+mod stack;
+
+pub use act::{Act, RemoteAsk, StepEnd};
+pub use frame::{Frame, Var};
+pub use item::{Catch, Item};
+pub use law::never_stuck;
+pub use obj::Obj;
+pub use stack::Stack;
