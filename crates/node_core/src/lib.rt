@@ -2,3 +2,8 @@
 #![tactic(auto)]
 
 mod lines;
+mod node;
+mod start;
+mod turn;
+
+pub use node::{Node, NodeFault};

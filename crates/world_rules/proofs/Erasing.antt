@@ -9,7 +9,7 @@ use Rattle.world_types.specs.declared.effects.Effects.{Effects}
 use Rattle.world_types.specs.declared.event.PlainEvent.{PlainEvent}
 use Rattle.world_rules.specs.Plain.{Rules, World, and_then, step, behind, plain, join, nothing}
 use Rattle.world_rules.specs.Said.{node_of, halted, halted_by, Round, is_open, opened, closed_at, closed, rounds_by, rounds, end_at, halted_time, cut, held, resumed, items_by, items, erased, erase, plainly_at, plain_events}
-use Rattle.world_rules.specs.Legal.{ReadsBy, InTime, told, tolds, IsPlainEvent, ArePlain, Laws}
+use Rattle.world_rules.specs.Legal.{ReadsBy, InTime, told, tolds, IsPlainEvent, ArePlain}
 
 by_test : {P : Type 0} (b : Bool) → (b ≡ true → P) → (b ≡ false → P) → P
 by_test true h k = h refl
@@ -59,7 +59,7 @@ erased-more past e h =
     let d = cut (rounds past) in
     rw (erased-alike c d e.stamp past h.2 (cut-later past e), items-alike c d past e.stamp e.event h.1 (cut-later past e)) refl
 
-snoc : (list : List Told) (e : Told) → InTime e.stamp (e ∷ reverse list) → erase (list ++ e ∷ []) ≡ erase list ++ items (cut (rounds (reverse list))) (reverse list) e
+pub snoc : (list : List Told) (e : Told) → InTime e.stamp (e ∷ reverse list) → erase (list ++ e ∷ []) ≡ erase list ++ items (cut (rounds (reverse list))) (reverse list) e
 snoc list e h = rw (reverse-append list (e ∷ [])) (erased-more (reverse list) e h)
 
 -- ---- what is left has no debugger in it
@@ -135,13 +135,6 @@ pub erase-plain : (list : List Told) → ArePlain list → erase list ≡ list
 erase-plain list h =
     let p = plain_reverse list h in
     erased-plain (cut (rounds (reverse list))) (reverse list) (λ t. cut-plain (reverse list) t p) p ∙ reverse-twice list
-
-pub laws : Laws
-laws = record {
-  snoc = snoc;
-  plain_only = λ list. plain_erased (cut (rounds (reverse list))) (reverse list);
-  again = λ list. erase-plain (erase list) (plain_erased (cut (rounds (reverse list))) (reverse list));
-}
 
 -- ---- the effects of a legal list
 

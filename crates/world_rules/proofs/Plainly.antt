@@ -53,7 +53,7 @@ unblocked : (here p : Option (ℕ × ℕ)) (marks : ℕ → Bool) → ((line : �
 unblocked None p marks h = refl
 unblocked (Some place) p marks h = rw (h place.1) refl
 
-unmarked-plain : {S : Type 0} (rules : Rules S) (s : S) (t : ℕ) (marks : ℕ → Bool) (k : ℕ) → ((line : ℕ) → marks line ≡ false) → unmarked rules s t marks k ≡ true
+pub unmarked-plain : {S : Type 0} (rules : Rules S) (s : S) (t : ℕ) (marks : ℕ → Bool) (k : ℕ) → ((line : ℕ) → marks line ≡ false) → unmarked rules s t marks k ≡ true
 unmarked-plain rules s t marks zero h = refl
 unmarked-plain rules s t marks (suc k) h = rw (none (rules.begins s (suc k) t)) (unmarked-plain rules s t marks k h)
   where

@@ -229,11 +229,6 @@ abbrev pub InTime : ℕ → List Told → Type 0
 InTime s [] = Unit {0}
 InTime s (e ∷ past) = (e.stamp ≤ s) × ReadsBy e.stamp e.event × InTime e.stamp past
 
-pub record Laws : Type 0 where
-  pub snoc : (list : List Told) (e : Told) → InTime e.stamp (e ∷ reverse list) → erase (list ++ e ∷ []) ≡ erase list ++ items (cut (rounds (reverse list))) (reverse list) e
-  pub plain_only : (list : List Told) → ArePlain (erase list)
-  pub again : (list : List Told) → erase (erase list) ≡ erase list
-
 -- the effects of a legal list are those of its erasure
 pub record SameEffects {S : Type 0} (rules : Rules S) (first : World S) (list : List Entry) : Type 0 where
   pub last : World S

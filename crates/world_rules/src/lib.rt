@@ -1,8 +1,6 @@
 //! What a list of entries says, the machine without debugger, and the laws that join them.
 #![tactic(auto)]
 
-mod laws;
+mod law;
 
-pub use laws::{
-    clock_law, erases_legally, erasing_laws, knowing_law, lagging_clock_law, same_effects,
-};
+pub use law::{clock_law, cut_laws, erasing_laws, knowing_law, lagging_clock_law};

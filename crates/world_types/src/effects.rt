@@ -1,6 +1,9 @@
+ghost use Rattle.std.specs.Prelude.{◌≡◌, []};
+
 use crate::bytes::Bytes;
 use crate::event::{Event, Kind};
 use sqlite_items::Items;
+use std::alloc::Global;
 
 /// A packet that was sent, as its bytes on the wire.
 #[derive(Debug, Drop)]
@@ -66,6 +69,20 @@ pub struct Effects {
     pub lines: Items<Line>,
     pub marks: Items<Mark>,
     pub shown: Bytes,
+}
+
+impl Effects {
+    /// No effects. Takes no memory.
+    pub fn nothing(alloc: Global) -> Effects
+        ensures { result ≡ record { sent = []; lines = []; marks = []; shown = [] } }
+    {
+        Effects {
+            sent: Items::new(alloc),
+            lines: Items::new(alloc),
+            marks: Items::new(alloc),
+            shown: Bytes::from_vec(Vec::new(alloc)),
+        }
+    }
 }
 
 /// An entry of the journal.
