@@ -1,11 +1,11 @@
 -- A field that is read is the field that was written, and what was written is read again.
-use Rattle.std.proofs.Common.{◌≡◌, ◌≢◌, ℕ, zero, suc, ◌+◌, ◌-◌, ◌*◌, ◌/◌, ◌%◌, ◌^◌, ◌<◌, ◌≤◌, Bool, true, false, cond, List, [], ◌∷◌, ◌++◌, length, get_or, take, drop, Option, Some, None, refl, sym, ap, subst, ◌∙◌, append_assoc, arith, inl, inr, ◌⊎◌}
+use Rattle.std.proofs.Common.{◌≡◌, ◌≢◌, ℕ, ◌+◌, ◌-◌, ◌*◌, ◌/◌, ◌%◌, ◌^◌, ◌<◌, ◌≤◌, Bool, true, false, cond, List, [], ◌∷◌, ◌++◌, length, take, drop, Option, Some, None, refl, sym, ap, subst, ◌∙◌, append_assoc, arith, inl, inr, ◌⊎◌}
 use Rattle.std.specs.Prelude.{nat_le, nat_eq, ◌==◌, ◌&&◌, ◌||◌, not}
 use Rattle.std.specs.Fmt.{decimal}
-use Rattle.std.proofs.lemmas.Bool.{eqb-true, eq-eqb, eqb-false, ne_eqb, leb-true, leb-false, le-leb, lt-leb, and_parts, and_from, and_left, and_right, or_parts, or_from, not-false}
+use Rattle.std.proofs.lemmas.Bool.{eqb-true, eq-eqb, eqb-false, ne_eqb, leb-true, le-leb, lt-leb, and_parts, and_from, and_left, and_right, or_parts, not-false}
 use Rattle.std.proofs.lemmas.Fmt.{decimal_digit, decimal_step, decimal_by_steps}
 use lib.Pointwise.{pointwise}
-use Rattle.journal_text.specs.Reading.{◌>>=◌, text_at, is_digit, digit_at, digits_on, number_at, word_number_at, positive_at}
+use Rattle.journal_text.specs.Reading.{◌>>=◌, text_at, is_digit, digit_at, digits_on, number_at}
 
 -- the value of a step that found something
 pub bind_some : {A B : Type 0} (o : Option A) (f : A → Option B) (y : B) → (o >>= f) ≡ Some y → (x : A) × (o ≡ Some x) × (f x ≡ Some y)
@@ -19,6 +19,10 @@ chosen false x y z e = inr (refl, e)
 
 pub some_is : {A : Type 0} (x y : A) → Some x ≡ Some y → x ≡ y
 some_is x y e = cc
+
+-- what holds of one of them holds of the other
+pub some_has : {A : Type 0} (P : A → Type 0) (x y : A) → Some x ≡ Some y → P x → P y
+some_has P x y e p = subst P (some_is x y e) p
 
 pub none_is : {A P : Type 0} (x : A) → None ≡ Some x → P
 none_is x e = absurd cc
@@ -122,7 +126,7 @@ pub record TakesNumber (bytes : List ℕ) (largest n : ℕ) (rest : List ℕ) : 
 digits_take : (largest value : ℕ) (bytes : List ℕ) (x : ℕ × List ℕ) → largest < 2 ^ 64 → value ≤ largest → digits_on largest value bytes ≡ Some x → TakesNumber (decimal value ++ bytes) largest x.0 x.1
 unfolding digits_on
 digits_take largest value [] x limit small e =
-    subst (λ (y : ℕ × List ℕ). TakesNumber (decimal value ++ []) largest y.0 y.1) (some_is (value, []) x e) (record { parts = refl; small = small })
+    some_has (λ (y : ℕ × List ℕ). TakesNumber (decimal value ++ []) largest y.0 y.1) (value, []) x e (record { parts = refl; small = small })
 digits_take largest value (b ∷ bytes) x limit small e =
     elim (chosen (is_digit b) _ _ (Some x) e) [
       | inl w ↦ elim (chosen ((value == 0) || not (nat_le (value * 10 + (b - 48)) largest)) _ _ (Some x) w.1) [
@@ -136,7 +140,7 @@ digits_take largest value (b ∷ bytes) x limit small e =
             let regrouped : decimal value ++ (b ∷ bytes) ≡ decimal (value * 10 + (b - 48)) ++ bytes = sym (append_assoc (decimal value) (b ∷ []) bytes) ∙ ap (λ (front : List ℕ). front ++ bytes) (sym pushed) in
             record { parts = regrouped ∙ others.parts; small = others.small }
       ]
-      | inr w ↦ subst (λ (y : ℕ × List ℕ). TakesNumber (decimal value ++ (b ∷ bytes)) largest y.0 y.1) (some_is (value, b ∷ bytes) x w.1) (record { parts = refl; small = small })
+      | inr w ↦ some_has (λ (y : ℕ × List ℕ). TakesNumber (decimal value ++ (b ∷ bytes)) largest y.0 y.1) (value, b ∷ bytes) x w.1 (record { parts = refl; small = small })
     ]
 
 digit_takes : (bytes : List ℕ) (x : ℕ × List ℕ) → digit_at bytes ≡ Some x → (bytes ≡ decimal x.0 ++ x.1) × (x.0 ≤ 9)
@@ -147,7 +151,7 @@ digit_takes (b ∷ bytes) x e =
       | inl w ↦
           let range = is_digit_tells b w.0 in
           let shown : decimal (b - 48) ≡ b ∷ [] = decimal_digit (b - 48) (omega (arith, range.0, range.1)) ∙ ap (λ (d : ℕ). d ∷ []) (omega (arith, range.0, range.1)) in
-          subst (λ (y : ℕ × List ℕ). (b ∷ bytes ≡ decimal y.0 ++ y.1) × (y.0 ≤ 9)) (some_is (b - 48, bytes) x w.1) (ap (λ (front : List ℕ). front ++ bytes) (sym shown), omega (arith, range.0, range.1))
+          some_has (λ (y : ℕ × List ℕ). (b ∷ bytes ≡ decimal y.0 ++ y.1) × (y.0 ≤ 9)) (b - 48, bytes) x w.1 (ap (λ (front : List ℕ). front ++ bytes) (sym shown), omega (arith, range.0, range.1))
       | inr w ↦ none_is x w.1
     ]
 
@@ -176,10 +180,7 @@ reads_on largest = decimal_by_steps (Reads_on largest)
     let step = digits_on-more largest (n / 10) (48 + n % 10) rest digit (omega arith) (omega arith) in
     ap (number_at largest) (append_assoc digits ((48 + n % 10) ∷ []) rest) ∙ front (omega arith) ((48 + n % 10) ∷ rest) ∙ step ∙ ap (λ (m : ℕ). digits_on largest m rest) same)
 
--- the byte is no digit
-pub record IsNoDigit (b : ℕ) : Type 0 where
-  pub is : is_digit b ≡ false
-
+-- a number is read again where no digit follows it
 pub number_again : (largest n b : ℕ) (rest : List ℕ) → n ≤ largest → n < 2 ^ 64 → is_digit b ≡ false → number_at largest (decimal n ++ (b ∷ rest)) ≡ Some (n, b ∷ rest)
 unfolding Reads_on
 number_again largest n b rest bound limit other = reads_on largest n limit bound (b ∷ rest) ∙ digits_on-end largest n b rest other
@@ -194,7 +195,7 @@ digits_on-next largest value (b ∷ bytes) x e low other small =
       | inl w ↦
           let Same : ℕ × List ℕ → Type 0 = λ y. value ≤ (largest - y.0) / 10 → digits_on largest value (b ∷ bytes) ≡ digits_on largest (value * 10 + y.0) y.1 in
           let range = is_digit_tells b w.0 in
-          subst Same (some_is (b - 48, bytes) x w.1) (λ bound. digits_on-more largest value b bytes w.0 (omega arith) (omega (arith, range.0, range.1))) small
+          some_has Same (b - 48, bytes) x w.1 (λ bound. digits_on-more largest value b bytes w.0 (omega arith) (omega (arith, range.0, range.1))) small
       | inr w ↦ none_is x w.1
     ]
 
@@ -206,7 +207,7 @@ digits_on-bad largest value (b ∷ bytes) x e low large =
       | inl w ↦
           let Fails : ℕ × List ℕ → Type 0 = λ y. (value ≡ 0) ⊎ ((largest - y.0) / 10 < value) → digits_on largest value (b ∷ bytes) ≡ None in
           let range = is_digit_tells b w.0 in
-          subst Fails (some_is (b - 48, bytes) x w.1) (λ which. digits_on-fails largest value b bytes w.0 (elim which [ inl none ↦ inl none | inr above ↦ inr (omega (arith, range.0, range.1)) ])) large
+          some_has Fails (b - 48, bytes) x w.1 (λ which. digits_on-fails largest value b bytes w.0 (elim which [ inl none ↦ inl none | inr above ↦ inr (omega (arith, range.0, range.1)) ])) large
       | inr w ↦ none_is x w.1
     ]
 

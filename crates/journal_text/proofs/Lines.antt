@@ -1,6 +1,6 @@
 -- A line that is read is the line that was written, and what was written is read again.
-use Rattle.std.proofs.Common.{◌≡◌, ℕ, ◌+◌, ◌-◌, ◌^◌, ◌<◌, ◌≤◌, Bool, true, false, cond, List, [], ◌∷◌, ◌++◌, length, Option, Some, None, refl, sym, ap, subst, ◌∙◌, append_assoc, arith, inl, inr, ◌⊎◌}
-use Rattle.std.specs.Prelude.{◌==◌, codes, Result, Ok, Err, IfOk}
+use Rattle.std.proofs.Common.{◌≡◌, ℕ, ◌-◌, ◌^◌, ◌<◌, ◌≤◌, false, cond, List, [], ◌∷◌, ◌++◌, length, Some, None, refl, sym, ap, ◌∙◌, append_assoc, arith, inl, inr, ◌⊎◌}
+use Rattle.std.specs.Prelude.{◌==◌, codes, Result, Ok, Err, IfOk, MatchResult}
 use Rattle.std.specs.Fmt.{decimal}
 use Rattle.std.proofs.lemmas.Bool.{eqb-false, ne_eqb}
 use Rattle.std.proofs.lemmas.List.{length-append}
@@ -13,7 +13,7 @@ use Rattle.journal_text.specs.declared.fault.LineFault.TheVariants.{Bad, Memory}
 use Rattle.journal_text.specs.Spelling.{spaced, event_words, spelled}
 use Rattle.journal_text.specs.Grammar.{IsEvent, InGrammar, BeginsWithNoLine}
 use Rattle.journal_text.specs.Reading.{◌>>=◌, Gives, text_at, number_at, word_number_at, positive_at, turn_at, event_at, line_at}
-use Rattle.journal_text.proofs.Fields.{bind_some, chosen, some_is, none_is, text_takes, TakesNumber, number_takes, number_again}
+use Rattle.journal_text.proofs.Fields.{bind_some, chosen, some_has, none_is, text_takes, number_takes, number_again}
 
 -- the bytes are a space, the number and what follows it
 pub record TakesWord (bytes : List ℕ) (largest n : ℕ) (rest : List ℕ) : Type 0 where
@@ -43,7 +43,7 @@ positive_takes largest bytes x low limit e =
       | inr w ↦
           let other = eqb-false a.0.0 0 w.0 in
           let taken = word_takes largest bytes a.0 low limit a.1 in
-          subst (λ (y : ℕ × List ℕ). TakesWord bytes largest y.0 y.1 × (0 < y.0)) (some_is a.0 x w.1) (taken, omega arith)
+          some_has (λ (y : ℕ × List ℕ). TakesWord bytes largest y.0 y.1 × (0 < y.0)) a.0 x w.1 (taken, omega arith)
     ]
 
 positive_again : (largest n b : ℕ) (rest : List ℕ) → 0 < n → n ≤ largest → largest < 2 ^ 64 → (b ≡ 32) ⊎ (b ≡ 10) → positive_at largest (32 ∷ (decimal n ++ (b ∷ rest))) ≡ Some (n, b ∷ rest)
@@ -77,7 +77,7 @@ turn_takes bytes after x front e =
     let words2 = spaced-cons a.0.1 (decimal b.0.0) b.0.1 (decimal c.0.0 ∷ []) c.0.1 steps.0.parts words3 in
     let words1 = spaced-cons after (decimal a.0.0) a.0.1 (decimal b.0.0 ∷ decimal c.0.0 ∷ []) c.0.1 node.parts words2 in
     let words = spaced-cons bytes (codes "turn") after (decimal a.0.0 ∷ decimal b.0.0 ∷ decimal c.0.0 ∷ []) c.0.1 front words1 in
-    subst (λ (y : Event × List ℕ). TakesEvent bytes y.0 y.1) (some_is (Turn a.0.0 b.0.0 c.0.0, c.0.1) x c.2)
+    some_has (λ (y : Event × List ℕ). TakesEvent bytes y.0 y.1) (Turn a.0.0 b.0.0 c.0.0, c.0.1) x c.2
     (record { parts = words; fits = (omega (arith, node.small), (steps.1, steps.0.small), omega (arith, reading.small)) })
 
 event_takes : (bytes : List ℕ) (x : Event × List ℕ) → event_at bytes ≡ Some x → TakesEvent bytes x.0 x.1
@@ -117,7 +117,7 @@ line_takes bytes x e =
     let told : Told = record { stamp = a.0.0; event = b.0.0 } in
     let whole : bytes ≡ spelled told ++ c.0 =
     stamp.parts ∙ ap (λ (after : List ℕ). decimal a.0.0 ++ after) (event.parts ∙ ap (λ (after : List ℕ). spaced (event_words b.0.0) ++ after) end) ∙ simp append_assoc in
-    subst (λ (y : Told × List ℕ). (bytes ≡ spelled y.0 ++ y.1) × InGrammar y.0) (some_is (told, c.0) x c.2) (whole, (omega (arith, stamp.small), event.fits))
+    some_has (λ (y : Told × List ℕ). (bytes ≡ spelled y.0 ++ y.1) × InGrammar y.0) (told, c.0) x c.2 (whole, (omega (arith, stamp.small), event.fits))
 
 pub line_again : (told : Told) (rest : List ℕ) → InGrammar told → line_at (spelled told ++ rest) ≡ Some (told, rest)
 unfolding line_at text_at
@@ -141,7 +141,7 @@ answer_parts view bytes (Ok x) given = (line_takes bytes (view x) given).0
 answer_parts view bytes (Err fault) given = tt
 
 -- what is spelled is more than what stands behind it
-length-behind : (told : Told) (rest bytes : List ℕ) → bytes ≡ spelled told ++ rest → length rest < length bytes
+pub length-behind : (told : Told) (rest bytes : List ℕ) → bytes ≡ spelled told ++ rest → length rest < length bytes
 length-behind told rest bytes e =
     omega (arith, ap length e, length-append (spelled told) rest, length-append (decimal told.stamp ++ spaced (event_words told.event)) (10 ∷ []))
 
@@ -149,10 +149,11 @@ pub answer_shorter : {X : Type 0} (view : X → Told × List ℕ) (bytes : List 
 answer_shorter view bytes (Ok x) given = length-behind (view x).0 (view x).1 bytes (line_takes bytes (view x) given).0
 answer_shorter view bytes (Err fault) given = tt
 
-pub answer_only : {X : Type 0} (view : X → Told × List ℕ) (bytes : List ℕ) (r : Result X LineFault) → Gives view r (line_at bytes)
-    → IfOk r (λ x. (told : Told) (rest : List ℕ) → InGrammar told → bytes ≡ spelled told ++ rest → ((view x).0 ≡ told) × ((view x).1 ≡ rest))
-answer_only view bytes (Ok x) given = λ told rest fits e. some_pair_parts (view x).0 told (view x).1 rest (sym given ∙ ap line_at e ∙ line_again told rest fits)
-answer_only view bytes (Err fault) given = tt
+pub answer_taken : {X : Type 0} (view : X → Told × List ℕ) (bytes : List ℕ) (r : Result X LineFault) → Gives view r (line_at bytes)
+    → (told : Told) (rest : List ℕ) → InGrammar told → bytes ≡ spelled told ++ rest → MatchResult r (λ x. ((view x).0 ≡ told) × ((view x).1 ≡ rest)) (λ fault. fault ≡ Memory)
+answer_taken view bytes (Ok x) given told rest fits e = some_pair_parts (view x).0 told (view x).1 rest (sym given ∙ ap line_at e ∙ line_again told rest fits)
+answer_taken view bytes (Err Memory) given told rest fits e = refl
+answer_taken view bytes (Err Bad) given told rest fits e = none_is (told, rest) (sym given ∙ ap line_at e ∙ line_again told rest fits)
 
 pub answer_bad : {X : Type 0} (view : X → Told × List ℕ) (bytes : List ℕ) (r : Result X LineFault) → Gives view r (line_at bytes) → r ≡ Err Bad → BeginsWithNoLine bytes
 answer_bad view bytes (Ok x) given bad = absurd cc

@@ -1,9 +1,9 @@
 -- Lines one after the other, as a loop reads them.
-use Rattle.std.proofs.Common.{◌≡◌, ◌≢◌, ℕ, suc, ◌+◌, ◌<◌, ◌≤◌, List, [], ◌∷◌, ◌++◌, length, All, refl, sym, ap, subst, ◌∙◌, append_assoc, arith, inl, inr, ◌⊎◌}
-use Rattle.std.specs.Prelude.{Result, Ok, Err, IfOk}
+use Rattle.std.proofs.Common.{◌≡◌, ◌≢◌, ℕ, ◌+◌, ◌≤◌, List, [], ◌∷◌, ◌++◌, length, All, refl, sym, ap, subst, ◌∙◌, append_assoc, arith, inl, inr, ◌⊎◌}
+use Rattle.std.specs.Prelude.{Result, Ok, Err, IfOk, MatchResult}
 use Rattle.std.specs.Global.{Vec}
 use Rattle.std.specs.List.{flat_map}
-use Rattle.std.proofs.lemmas.List.{append-nil, length-append, nil_from_length}
+use Rattle.std.proofs.lemmas.List.{append-nil, length-append}
 use Rattle.std.proofs.lemmas.List.Concat.{flat_map-cons}
 use Rattle.std.proofs.lemmas.Grind.{flat_map-append}
 use Rattle.std.proofs.lemmas.List.Elements.{All-nil, All-head, All-tail, All-push}
@@ -12,7 +12,7 @@ use Rattle.journal_text.specs.declared.fault.JournalFault.{JournalFault}
 use Rattle.journal_text.specs.declared.fault.JournalFault.TheVariants.{BadLine, Memory}
 use Rattle.journal_text.specs.Spelling.{spelled}
 use Rattle.journal_text.specs.Grammar.{InGrammar, BeginsWithNoLine, most_lines, IsJournal, IsFirstBad}
-use Rattle.journal_text.proofs.Lines.{unambiguous}
+use Rattle.journal_text.proofs.Lines.{unambiguous, length-behind}
 
 -- the bytes are these lines, at most as many as a journal may have, and a rest
 pub record IsReadSoFar (bytes : List ℕ) (lines : List Told) (rest : List ℕ) : Type 0 where
@@ -87,19 +87,31 @@ no_more bytes k bad (told ∷ more) y e each few = absurd (elim bad.bad [
       (e ∙ ap (λ (front : List ℕ). front ++ y) (flat_map-cons spelled told more) ∙ append_assoc (spelled told) (flat_map spelled more) y)
 ])
 
+-- what is nothing begins with no line and has no rest
+nothing_continues : (more : List Told) (rest : List ℕ) → [] ≡ flat_map spelled more ++ rest → (more ≡ []) × (rest ≡ [])
+nothing_continues [] rest e = (refl, sym e)
+nothing_continues (told ∷ more) rest e =
+    absurd (omega (arith, length-behind told (flat_map spelled more ++ rest) [] (e ∙ ap (λ (front : List ℕ). front ++ rest) (flat_map-cons spelled told more) ∙ append_assoc (spelled told) (flat_map spelled more) rest)))
+
 -- a journal has no bad line
 journal_or_bad : (bytes : List ℕ) (lines : List Told) (k : ℕ) → IsJournal bytes lines → IsFirstBad bytes k → ⊥
 journal_or_bad bytes lines k good bad =
     let e : flat_map spelled lines ++ [] ≡ flat_map spelled bad.before ++ bad.rest = append-nil (flat_map spelled lines) ∙ sym good.whole ∙ bad.parts in
     elim (one_continues lines bad.before [] bad.rest good.each bad.each e) [
-      | inl c ↦ ends_with_nothing c.more bad.rest c.rest bad.there
+      | inl c ↦ bad.there (nothing_continues c.more bad.rest c.rest).1
       | inr c ↦
           let none = no_more bytes k bad c.more [] c.rest c.each (omega (arith, good.few, ap length c.lines)) in
           bad.there (c.rest ∙ ap (λ (more : List Told). flat_map spelled more ++ []) none)
     ]
-  where
-    ends_with_nothing : (more : List Told) (rest : List ℕ) → [] ≡ flat_map spelled more ++ rest → rest ≢ [] → ⊥
-    ends_with_nothing more rest e there = there (nil_from_length rest (omega (arith, ap length e, length-append (flat_map spelled more) rest)))
+
+-- bytes are one journal at most
+one_journal : (bytes : List ℕ) (a b : List Told) → IsJournal bytes a → IsJournal bytes b → a ≡ b
+one_journal bytes a b good other =
+    let e : flat_map spelled a ++ [] ≡ flat_map spelled b ++ [] = append-nil (flat_map spelled a) ∙ sym good.whole ∙ other.whole ∙ sym (append-nil (flat_map spelled b)) in
+    elim (one_continues a b [] [] good.each other.each e) [
+      | inl c ↦ sym (c.lines ∙ ap (λ (more : List Told). a ++ more) (nothing_continues c.more [] c.rest).0 ∙ append-nil a)
+      | inr c ↦ c.lines ∙ ap (λ (more : List Told). b ++ more) (nothing_continues c.more [] c.rest).0 ∙ append-nil b
+    ]
 
 one_bad : (bytes : List ℕ) (j k : ℕ) → IsFirstBad bytes j → IsFirstBad bytes k → j ≡ k
 one_bad bytes j k a b =
@@ -119,3 +131,9 @@ pub bad_is_found : (bytes : List ℕ) (r : Result (Vec Told) JournalFault) → I
 bad_is_found bytes (Ok lines) read bad number first = absurd (journal_or_bad bytes lines.items number read first)
 bad_is_found bytes (Err (BadLine k)) read bad number first = inl (ap (λ (n : ℕ). Err (BadLine n)) (one_bad bytes k number (bad k refl) first))
 bad_is_found bytes (Err Memory) read bad number first = inr refl
+
+pub journal_is_read : (bytes : List ℕ) (r : Result (Vec Told) JournalFault) → IfOk r (λ lines. IsJournal bytes lines.items) → ((k : ℕ) → r ≡ Err (BadLine k) → IsFirstBad bytes k)
+    → (lines : List Told) → IsJournal bytes lines → MatchResult r (λ read. read.items ≡ lines) (λ fault. fault ≡ Memory)
+journal_is_read bytes (Ok read) good bad lines journal = one_journal bytes read.items lines good journal
+journal_is_read bytes (Err (BadLine k)) good bad lines journal = absurd (journal_or_bad bytes lines k journal (bad k refl))
+journal_is_read bytes (Err Memory) good bad lines journal = refl

@@ -1,4 +1,4 @@
-ghost use Rattle.std.specs.Prelude.{◌≡◌, List, ℕ, IfOk, ◌⊎◌};
+ghost use Rattle.std.specs.Prelude.{◌≡◌, List, ℕ, IfOk, MatchResult, ◌⊎◌};
 ghost use Rattle.world_types.specs.declared.event.Told.{Told};
 ghost use Rattle.journal_text.specs.Grammar.{IsJournal, IsFirstBad};
 
@@ -13,6 +13,10 @@ const MOST_LINES: usize = 1_000_000;
 /// The lines of a journal, each with its end. Empty bytes have no line.
 pub fn read_journal(alloc: Global, bytes: &[u8]) -> Result<Vec<Told>, JournalFault>
     ensures read { IfOk result (λ lines. IsJournal bytes.now lines.items) }
+    // A journal is read, unless memory runs out.
+    ensures all_read { (lines : List Told) → IsJournal bytes.now lines →
+        MatchResult result (λ read. read.items ≡ lines) (λ fault. fault ≡ JournalFault.Memory) }
+
     // The answer is this error exactly at the first bad line, unless memory runs out.
     ensures bad { (number : ℕ) → result ≡ Err (JournalFault.BadLine number) → IsFirstBad bytes.now number }
     ensures found { (number : ℕ) → IsFirstBad bytes.now number →

@@ -1,4 +1,4 @@
-ghost use Rattle.std.specs.Prelude.{◌≡◌, ◌++◌, ◌<◌, List, ℕ, length, IfOk};
+ghost use Rattle.std.specs.Prelude.{◌≡◌, ◌++◌, ◌<◌, List, ℕ, length, IfOk, MatchResult};
 ghost use Rattle.world_types.specs.declared.event.Told.{Told};
 ghost use Rattle.journal_text.specs.Spelling.{spelled};
 ghost use Rattle.journal_text.specs.Grammar.{InGrammar, BeginsWithNoLine};
@@ -29,10 +29,10 @@ pub fn first_line<'a>(alloc: Global, bytes: &'a [u8]) -> Result<FirstLine<'a>, L
     // What is taken is a line of the grammar.
     ensures grammar { IfOk result (λ line. InGrammar line.told) }
     ensures parts { IfOk result (λ line. bytes.now ≡ spelled line.told ++ line.rest.now) }
-    // There is no other way to read the bytes.
-    ensures only { IfOk result (λ line. (told : Told) (rest : List ℕ) → InGrammar told → bytes.now ≡ spelled told ++ rest →
-        (line.told ≡ told) × (line.rest.now ≡ rest)) }
     ensures shorter { IfOk result (λ line. length line.rest.now < length bytes.now) }
+    // A line of the grammar at the front is taken, unless memory runs out.
+    ensures taken { (told : Told) (rest : List ℕ) → InGrammar told → bytes.now ≡ spelled told ++ rest →
+        MatchResult result (λ line. (line.told ≡ told) × (line.rest.now ≡ rest)) (λ fault. fault ≡ LineFault.Memory) }
 
     // Exactly where the bytes begin with no line of the grammar, unless memory runs out.
     ensures bad { result ≡ Err LineFault.Bad → BeginsWithNoLine bytes.now }
