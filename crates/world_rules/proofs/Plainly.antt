@@ -25,7 +25,7 @@ quits-plain (Packet n m j) h = refl
 quits-plain (Tick n) h = refl
 quits-plain e h = elim h [ ]
 
-quit-plain : (past : List Told) → ArePlain past → has_quit past ≡ false
+pub quit-plain : (past : List Told) → ArePlain past → has_quit past ≡ false
 quit-plain [] h = refl
 quit-plain (e ∷ past) h = rw (quits-plain e.event h.0) (quit-plain past h.1)
 
@@ -35,7 +35,7 @@ goal_by-plain rs s (Packet n m j) before h = refl
 goal_by-plain rs s (Tick n) before h = refl
 goal_by-plain rs s e before h = elim h [ ]
 
-goal-plain : (past : List Told) → ArePlain past → goal past ≡ None
+pub goal-plain : (past : List Told) → ArePlain past → goal past ≡ None
 goal-plain [] h = refl
 goal-plain (e ∷ past) h = goal_by-plain (rounds past) e.stamp e.event (goal past) h.0 ∙ goal-plain past h.1
 
@@ -45,11 +45,11 @@ marked_by-plain line (Packet n m j) before h = refl
 marked_by-plain line (Tick n) before h = refl
 marked_by-plain line e before h = elim h [ ]
 
-marked-plain : (n : ℕ) (past : List Told) (line : ℕ) → ArePlain past → marked n past line ≡ false
+pub marked-plain : (n : ℕ) (past : List Told) (line : ℕ) → ArePlain past → marked n past line ≡ false
 marked-plain n [] line h = refl
 marked-plain n (e ∷ past) line h = if-same (node_of e.event == n) (marked_by line e.event (marked n past line)) (marked n past line) (marked_by-plain line e.event (marked n past line) h.0) ∙ marked-plain n past line h.1
 
-unblocked : (here p : Option (ℕ × ℕ)) (marks : ℕ → Bool) → ((line : ℕ) → marks line ≡ false) → blocked here marks p ≡ false
+pub unblocked : (here p : Option (ℕ × ℕ)) (marks : ℕ → Bool) → ((line : ℕ) → marks line ≡ false) → blocked here marks p ≡ false
 unblocked None p marks h = refl
 unblocked (Some place) p marks h = rw (h place.1) refl
 
@@ -61,7 +61,7 @@ unmarked-plain rules s t marks (suc k) h = rw (none (rules.begins s (suc k) t)) 
     none None = refl
     none (Some line) = h line
 
-most-plain : {S : Type 0} (rules : Rules S) (s : S) (t : ℕ) (marks : ℕ → Bool) (k : ℕ) → ((line : ℕ) → marks line ≡ false) → IsSome (rules.turn s k t) → 1 ≤ k → most rules s t marks k ≡ k
+pub most-plain : {S : Type 0} (rules : Rules S) (s : S) (t : ℕ) (marks : ℕ → Bool) (k : ℕ) → ((line : ℕ) → marks line ≡ false) → IsSome (rules.turn s k t) → 1 ≤ k → most rules s t marks k ≡ k
 most-plain rules s t marks zero h some l = refl
 most-plain rules s t marks (suc k) h some l = rw (some, unmarked-plain rules s t marks (suc k - 1) h) refl
 
