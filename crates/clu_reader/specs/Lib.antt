@@ -1,0 +1,5 @@
+pub mod Words
+pub mod Extent
+pub mod Digits
+pub mod Joins
+pub mod Faults
