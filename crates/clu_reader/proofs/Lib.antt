@@ -4,3 +4,7 @@ pub mod Spelling
 pub mod Joining
 pub mod Scanning
 pub mod Faulting
+pub mod Grouping
+pub mod Reading
+pub mod Whole
+pub mod Typedness

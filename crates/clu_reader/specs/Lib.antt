@@ -3,3 +3,4 @@ pub mod Extent
 pub mod Digits
 pub mod Joins
 pub mod Faults
+pub mod Plan
