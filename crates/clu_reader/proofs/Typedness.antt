@@ -55,6 +55,10 @@ routines-typed : (ts r : Tokens) (xs : List Routine) → ReadsRoutines ts r xs �
 routines-typed ts _ _ (no_routine b) = all_none IsTypedRoutine
 routines-typed ts r _ (a_routine {x = x} d) = all_more IsTypedRoutine x [] (routine-typed ts r x d) (all_none IsTypedRoutine)
 
+routines-few : (ts r : Tokens) (xs : List Routine) → ReadsRoutines ts r xs → length xs ≤ 10000
+routines-few ts _ _ (no_routine b) = omega arith
+routines-few ts r _ (a_routine {x = x} d) = omega arith
+
 -- A program that was read is typed if its node block is numbered 1 and has typed parts.
 pub typed : (p : Program) → IsRead p → (node : NodeDecl) → p.nodes ≡ node ∷ [] → node.number ≡ pos 1 → (length node.parts ≤ 1) × All (IsTypedPart p) node.parts → IsTyped p
 typed p read node only number parts =
@@ -63,6 +67,7 @@ typed p read node only number parts =
       equates = ap (λ (z : Program). z.equates) w.is;
       node_vars = ap (λ (z : Program). z.node_vars) w.is;
       clusters = ap (λ (z : Program). z.clusters) w.is;
+      few_routines = subst (λ (z : Program). length z.routines ≤ 10000) (sym w.is) (routines-few read.1.tokens w.middle w.before w.routines);
       routines = subst (λ (z : Program). All IsTypedRoutine z.routines) (sym w.is) (routines-typed read.1.tokens w.middle w.before w.routines);
       one_node = ap length only;
       numbered = subst (AreNumbered 1) (sym only) (number, tt);

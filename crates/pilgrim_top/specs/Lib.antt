@@ -1,4 +1,5 @@
 pub mod Ends
 pub mod Replay
 pub mod Script
+pub mod Top
 pub mod Usage

@@ -5,6 +5,7 @@ use Rattle.clu_tree.specs.declared.program.Program.{Program}
 use Rattle.world_types.specs.declared.effects.Entry.{Entry}
 use Rattle.world_rules.specs.Legal.{ErasesLegally, SameEffects}
 use Rattle.world_rules.specs.Node.{first_of_program, rules_of}
+use Rattle.world_rules.specs.Transcript.{transcript}
 use Rattle.outside_edge.specs.Told.{Tells}
 use Rattle.outside_edge.specs.Shelf.{ShelfTold, Loads, LoadFails}
 use Rattle.outside_edge.specs.Sink.{SinkTold, Exceeds, Wrote}
@@ -19,11 +20,14 @@ use Rattle.pilgrim_top.specs.declared.stop.Stop.TheVariants.{Unread, Cut, Memory
 abbrev pub most_bytes : ℕ
 most_bytes = 1048576
 
+abbrev pub refused_text : ℕ → List ℕ
+refused_text line = codes "program refused at line " ++ decimal line ++ 10 ∷ []
+
 -- the bytes are refused as a program, with this text: they are too many, or no program that is accepted has them
 pub data IsRefusedProgram (bytes : List ℕ) : List ℕ → Type 0 where
   too_long : most_bytes < length bytes → IsRefusedProgram bytes (codes "program too long" ++ 10 ∷ [])
   not_accepted : (line : ℕ) → length bytes ≤ most_bytes → ((program : Program) → IsAccepted bytes program → ⊥) →
-      IsRefusedProgram bytes (codes "program refused at line " ++ decimal line ++ 10 ∷ [])
+      IsRefusedProgram bytes (refused_text line)
 
 -- The headline: the effects of the journal are those of the machine without debugger on the journal's erasure, and the
 -- erasure is legal itself.
@@ -51,3 +55,4 @@ pub data Replays (file script : List ℕ) (shelf shelf' : Option ShelfTold) (sin
       Loads script mid shelf' (Ok lines) → RunsScript program lines sink sink' journal end → Unnoticed program journal → Replays file script shelf shelf' sink sink' journal end
   -- memory runs out before the script is run
   ran_out : LoadsSome file script shelf shelf' → journal ≡ [] → Wrote sink sink' [] → end ≡ Err Memory → Replays file script shelf shelf' sink sink' journal end
+
