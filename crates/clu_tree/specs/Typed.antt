@@ -61,11 +61,12 @@ abbrev pub AreNumbered : ℕ → List NodeDecl → Type 0
 AreNumbered first [] = Unit {0}
 AreNumbered first (node ∷ nodes) = (node.number ≡ pos first) × AreNumbered (suc first) nodes
 
--- A program has routines and one node block, numbered 1, that are typed.
+-- A program has at most 10,000 routines and one node block, numbered 1, that are typed.
 pub record IsTyped (program : Program) : Type 0 where
   pub equates : program.equates ≡ []
   pub node_vars : program.node_vars ≡ []
   pub clusters : program.clusters ≡ []
+  pub few_routines : length program.routines ≤ 10000
   pub routines : All IsTypedRoutine program.routines
   pub one_node : length program.nodes ≡ 1
   pub numbered : AreNumbered 1 program.nodes

@@ -1,0 +1,120 @@
+-- What a list of turns of one node says, and one turn more.
+use Rattle.std.proofs.Common.{◌≡◌, ℕ, zero, suc, ◌≤◌, ◌-◌, Bool, true, false, not, ◌&&◌, ◌||◌, if◌then◌else◌, ◌==◌, nat_le, List, [], ◌∷◌, ◌++◌, reverse, Option, Some, None, is_some, is_none, IsSome, slice_get, slice_set, refl, sym, ◌∙◌, ap, subst, arith, append-nil}
+use Rattle.std.proofs.lemmas.Bool.{eqb-true, eq-eqb}
+use Rattle.std.proofs.lemmas.List.{reverse-append}
+use Rattle.clu_tree.specs.declared.program.Program.{Program}
+use Rattle.world_types.specs.declared.event.Event.{Event}
+use Rattle.world_types.specs.declared.event.Event.TheVariants.{Turn}
+use Rattle.world_types.specs.declared.event.Told.{Told}
+use Rattle.world_types.specs.declared.event.PlainEvent.TheVariants as plainly
+use Rattle.world_types.specs.declared.effects.Sent.{Sent}
+use Rattle.world_types.specs.declared.effects.Effects.{Effects}
+use Rattle.world_types.specs.declared.effects.Entry.{Entry}
+use Rattle.world_rules.specs.Plain.{Rules, World, and_then, behind, join, node_at, nothing, plain, step}
+use Rattle.world_rules.specs.Said.{cut, erased, goal, halted, has_quit, is_open, last_of, last_stamp, marked, plain_events, rounds, turned as turned_in}
+use Rattle.world_rules.specs.Legal.{ArePlain, Follows, Test, all_tests, allowed, bare, blocked, enter, first_failing, first_of, is_node, most, passed, reached, settled, told, unmarked}
+use Rattle.world_rules.specs.Node.{NodeState, acted, first_of_program, picked_at, picks, ready_frames, rules_of, step_of, steps, turn}
+use Rattle.machine_rules.specs.declared.frame.Frame.{Frame}
+use Rattle.machine_rules.specs.declared.act.Act.{Act}
+use Rattle.machine_rules.specs.declared.act.Act.TheVariants as act
+use Rattle.machine_rules.specs.Row.{bare_world, row}
+use Rattle.world_rules.proofs.Erasing.{cut-plain, erased-plain, events-append, halted-plain, plain-append, reverse-twice, rounds-plain}
+use Rattle.world_rules.proofs.Lawfully.{lawful, passed_at}
+use Rattle.world_rules.proofs.Plainly.{and_then_some, goal-plain, marked-plain, most-plain, quit-plain, unblocked, unmarked-plain}
+use Rattle.node_core.specs.Kept.{no_marks}
+use Rattle.debug_world.specs.Seen.{AreTurns, turned}
+
+by_test : {P : Type 0} (b : Bool) → (b ≡ true → P) → (b ≡ false → P) → P
+by_test true h k = h refl
+by_test false h k = k refl
+
+pub turns_plain : (past : List Told) → AreTurns past → ArePlain past
+turns_plain [] h = tt
+turns_plain (e ∷ past) h = (rw h.0.2 tt, turns_plain past h.1)
+
+-- the last stamp is the node's
+pub last_is : (past : List Told) → AreTurns past → last_of 1 past ≡ last_stamp past
+last_is [] h = refl
+last_is (e ∷ past) h = rw h.0.2 refl
+
+and_true : (b : Bool) → (b && true) ≡ b
+and_true true = refl
+and_true false = refl
+
+pub some_fst : {A B : Type 0} (a b : A × B) → Some a ≡ Some b → a.0 ≡ b.0
+some_fst {A} {B} a b h = ap fst_of h
+  where
+    fst_of : Option (A × B) → A
+    fst_of None = a.0
+    fst_of (Some c) = c.0
+
+some_snd : {A B : Type 0} (a b : A × B) → Some a ≡ Some b → a.1 ≡ b.1
+some_snd {A} {B} a b h = ap snd_of h
+  where
+    snd_of : Option (A × B) → B
+    snd_of None = a.1
+    snd_of (Some c) = c.1
+
+pub some_of : {A : Type 0} (o : Option A) (a : A) → o ≡ Some a → IsSome o
+some_of o a h = rw h refl
+
+-- ---- what is printed and marked shows nothing
+
+acted-shown : (p : ℕ) (s : NodeState) (does : Act) (frames : List Frame) (a : NodeState × Effects) → acted p s does frames ≡ Some a → a.1.shown ≡ []
+acted-shown p s act.Went frames a h = rw (← some_snd _ _ h) refl
+acted-shown p s (act.Put text) frames a h = rw (← some_snd _ _ h) refl
+acted-shown p s (act.Ended v) frames a h = rw (← some_snd _ _ h) refl
+acted-shown p s does frames a h = cc
+
+step-shown : (program : Program) (p : ℕ) (s : NodeState) (a : NodeState × Effects) → step_of program p s ≡ Some a → a.1.shown ≡ []
+step-shown program p s a h =
+    let one = and_then_some (ready_frames p s.processes) (λ frames. and_then (row (bare_world program s.time) frames) (λ next. acted p s next.act next.frames)) a h in
+    let two = and_then_some (row (bare_world program s.time) one.a) (λ next. acted p s next.act next.frames) a one.gives in
+    acted-shown p s two.a.act two.a.frames a two.gives
+
+steps-shown : (program : Program) (p k : ℕ) (s : NodeState) (a : NodeState × Effects) → steps program p k s ≡ Some a → a.1.shown ≡ []
+steps-shown program p zero s a h = rw (← some_snd _ _ h) refl
+steps-shown program p (suc k) s a h =
+    let one = and_then_some (step_of program p s) (λ b. and_then (steps program p k b.0) (behind b.1)) a h in
+    let two = and_then_some (steps program p k one.a.0) (behind one.a.1) a one.gives in
+    rw (← some_snd _ _ two.gives, step-shown program p s one.a one.is, steps-shown program p k one.a.0 two.a two.is) refl
+
+pub turn-shown : (program : Program) (s : NodeState) (k t : ℕ) (a : NodeState × Effects) → turn program s k t ≡ Some a → a.1.shown ≡ []
+turn-shown program s k t a h =
+    let can = nat_le 1 k && (nat_le k 64 && nat_le s.time t) in
+    let one = and_then_some (picks s) (λ p. steps program p k (picked_at p t s)) a (passed_at can (and_then (picks s) (λ p. steps program p k (picked_at p t s))) a h) in
+    steps-shown program one.a k (picked_at one.a t s) a one.gives
+
+-- marks that mark no line don't matter
+pub most-alike : {S : Type 0} (rules : Rules S) (s : S) (t : ℕ) (marks : ℕ → Bool) (limit : ℕ) → ((line : ℕ) → marks line ≡ false) → most rules s t marks limit ≡ most rules s t no_marks limit
+most-alike rules s t marks zero h = refl
+most-alike rules s t marks (suc limit) h =
+    rw (unmarked-plain rules s t marks (suc limit - 1) h, unmarked-plain rules s t no_marks (suc limit - 1) (λ line. refl), most-alike rules s t marks limit h) refl
+
+is_one : (s : NodeState) (sent : List Sent) (n : ℕ) → is_node {S = NodeState} ((s, sent) ∷ []) n ≡ (n == 1)
+is_one s sent zero = refl
+is_one s sent (suc zero) = refl
+is_one s sent (suc (suc n)) = by_test (suc (suc n) == 1) (λ e. absurd (omega (arith, eqb-true (suc (suc n)) 1 e))) (λ e. sym e)
+
+module _ (program : Program) where
+  -- what is reached is what the machine without debugger leaves
+  pub reached_is : (list : List Told) (w : World NodeState) (x : Effects) → ArePlain (reverse list) → plain (rules_of program) (first_of_program program) (plain_events list) ≡ Some (w, x) → reached (rules_of program) (first_of_program program) (reverse list) ≡ w
+  reached_is list w x h ran =
+      rw (erased-plain (cut (rounds (reverse list))) (reverse list) (λ t. cut-plain (reverse list) t h) h, reverse-twice list, ran) refl
+
+  -- the conditions of a turn after turns
+  abbrev pub short : ℕ → NodeState → ℕ → ℕ → ℕ → List Test
+  short last s stamp n r =
+      (1, nat_le last stamp) ∷ (3, n == 1) ∷ (10, nat_le last r && nat_le r stamp) ∷ (12, is_some (picks s)) ∷ []
+
+  failing_one : (past : List Told) (s : NodeState) (sent : List Sent) (stamp k r : ℕ) → AreTurns past → reached (rules_of program) (first_of_program program) past ≡ (s, sent) ∷ [] →
+      first_failing (rules_of program) (first_of_program program) past (turned stamp 1 k r) ≡ first_of (short (last_stamp past) s stamp 1 r)
+  failing_one past s sent stamp k r h at =
+      let p = turns_plain past h in
+      rw (at, quit-plain past p, halted-plain 1 past p, rounds-plain past p, goal-plain past p, last_is past h, and_true (nat_le r stamp), unblocked ((rules_of program).stands s) (passed (rules_of program) (first_of_program program) 1 past) (marked 1 past) (λ line. marked-plain 1 past line p)) refl
+
+  pub failing : (past : List Told) (s : NodeState) (sent : List Sent) (stamp n k r : ℕ) → AreTurns past → reached (rules_of program) (first_of_program program) past ≡ (s, sent) ∷ [] →
+      first_failing (rules_of program) (first_of_program program) past (turned stamp n k r) ≡ first_of (short (last_stamp past) s stamp n r)
+  failing past s sent stamp n k r h at = by_test (n == 1)
+      (λ e. subst (λ (m : ℕ). first_failing (rules_of program) (first_of_program program) past (turned stamp m k r) ≡ first_of (short (last_stamp past) s stamp m r)) (sym (eqb-true n 1 e)) (failing_one past s sent stamp k r h at))
+      (λ e. rw (at, is_one s sent n, e, quit-plain past (turns_plain past h)) refl)

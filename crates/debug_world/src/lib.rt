@@ -1,0 +1,8 @@
+//! The nodes of a program under a list of entries: which entry is legal, and what it gives.
+#![tactic(auto)]
+
+mod conditions;
+mod world;
+
+pub use conditions::{HAS_READY, NAMES_NODES, READS_IN_TIME, STAMP_RISES};
+pub use world::{DebugWorld, WorldFault};

@@ -1,0 +1,35 @@
+-- What a step does to the node that the process lives on.
+use Rattle.std.specs.Prelude.{◌≡◌, ◌≢◌, ◌≤◌, ◌<◌, ℕ, List, [], ◌∷◌, Option, Some, None}
+use Rattle.clu_tree.specs.declared.program.Program.{Program}
+use Rattle.machine_rules.specs.declared.frame.Frame.{Frame}
+use Rattle.machine_rules.specs.declared.act.Act.{Act}
+use Rattle.machine_rules.specs.declared.act.Act.TheVariants as act
+use Rattle.world_types.specs.declared.effects.Effects.{Effects}
+use Rattle.world_types.specs.declared.effects.Mark.TheVariants as mark
+use Rattle.world_rules.specs.Plain.{nothing}
+use Rattle.world_rules.specs.Node.{steps}
+use Rattle.world_rules.specs.Shown.{line_text}
+use Rattle.node_core.specs.Kept.{IsRunning, state_of}
+use Rattle.node_core.specs.declared.turn.Ran.{Ran}
+
+-- the effects of a step of the process 1 at the node
+abbrev pub noted : ℕ → Act → Effects
+noted node (act.Put text) = record nothing { lines = record { node = node; text = line_text node text } ∷ [] }
+noted node (act.Ended value) = record nothing { marks = mark.Ended 1 ∷ [] }
+noted node _ = nothing
+
+-- the act is one that a process of this part of the language has
+abbrev pub IsNoted : Act → Type 0
+IsNoted act.Went = Unit {0}
+IsNoted (act.Put text) = Unit {0}
+IsNoted (act.Ended value) = Unit {0}
+IsNoted _ = ⊥
+
+-- What is left of a process after a turn of at most so many steps, which began with these frames at the time: fewer
+-- steps than that only where it is over.
+pub record RanTo (program : Program) (number : ℕ) (frames : List Frame) (time limit : ℕ) (ran : Ran) : Type 0 where
+  pub taken : steps program 1 ran.steps (state_of number (Some frames) 1 time) ≡ Some (state_of number ran.process 1 time, ran.effects)
+  pub some : 1 ≤ ran.steps
+  pub within : ran.steps ≤ limit
+  pub early : ran.steps < limit → ran.process ≡ None
+  pub fits : IsRunning program ran.process

@@ -1,0 +1,9 @@
+//! A node of the machine without debugger.
+#![tactic(auto)]
+
+mod lines;
+mod node;
+mod start;
+mod turn;
+
+pub use node::{Node, NodeFault};

@@ -1,0 +1,6 @@
+//! The top call: the words of a command line, and what they ask.
+#![tactic(auto)]
+
+mod usage;
+
+pub use usage::{RunWords, Usage, UsageFault, usage_of};

@@ -1,0 +1,27 @@
+-- The laws of what a list says, over every program.
+use Rattle.std.specs.Prelude.{◌≡◌, ℕ, ◌≤◌, List, [], ◌∷◌, ◌++◌, reverse, None}
+use Rattle.clu_tree.specs.declared.program.Program.{Program}
+use Rattle.world_types.specs.declared.event.Told.{Told}
+use Rattle.world_types.specs.declared.effects.Entry.{Entry}
+use Rattle.world_rules.specs.Said.{rounds, cut, erase, items}
+use Rattle.world_rules.specs.Legal.{ArePlain, ErasesLegally, SameEffects, first_failing, tolds}
+use Rattle.world_rules.specs.Node.{IsLegal, first_of_program, rules_of}
+
+-- the events of the entries, the newest first
+abbrev pub past_of : List Entry → List Told
+past_of list = reverse (tolds list)
+
+-- Of the cut: it doesn't fall as the stamp rises, and a later entry never changes it at an earlier stamp.
+pub record CutLaws (program : Program) : Type 0 where
+  pub rises : (list : List Entry) (t u : ℕ) → IsLegal program list → t ≤ u → cut (rounds (past_of list)) t ≤ cut (rounds (past_of list)) u
+  pub stays : (past : List Told) (e : Told) (t : ℕ) → t ≤ e.stamp → cut (rounds (e ∷ past)) t ≡ cut (rounds past) t
+
+-- Of the list without the debugger: one more entry adds its items; it has only turns, packets and ticks; its effects
+-- are those of the list; it is legal; and erasing it once more changes nothing.
+pub record ErasingLaws (program : Program) : Type 0 where
+  pub one_more : (list : List Entry) (e : Told) → IsLegal program list → first_failing (rules_of program) (first_of_program program) (past_of list) e ≡ None →
+      erase (tolds list ++ e ∷ []) ≡ erase (tolds list) ++ items (cut (rounds (past_of list))) (past_of list) e
+  pub plain_only : (list : List Told) → ArePlain (erase list)
+  pub same : (list : List Entry) → IsLegal program list → SameEffects (rules_of program) (first_of_program program) list
+  pub legal : (list : List Entry) → IsLegal program list → ErasesLegally (rules_of program) (first_of_program program) list
+  pub again : (list : List Told) → erase (erase list) ≡ erase list

@@ -1,0 +1,6 @@
+//! What a list of entries says, the machine without debugger, and the laws that join them.
+#![tactic(auto)]
+
+mod law;
+
+pub use law::{clock_law, cut_laws, erasing_laws, knowing_law, lagging_clock_law};
