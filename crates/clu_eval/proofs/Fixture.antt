@@ -13,6 +13,7 @@ program_typed p r n es vs cs rs ns params returns signals body number parts = re
   equates = es;
   node_vars = vs;
   clusters = cs;
+  few_routines = rw rs (omega arith);
   routines = rw rs (All-cons IsTypedRoutine r [] (record { params = params; returns = returns; signals = signals; body = body }) (All-nil IsTypedRoutine));
   one_node = rw ns refl;
   numbered = rw ns (number, tt);
