@@ -96,11 +96,7 @@ fn goes(
 }
 
 /// A frame ended with this value, and gave these locks back.
-fn ends(
-    frames: &mut Stack<Frame>,
-    left: Items<Addr>,
-    value: Value,
-) -> Result<StepEnd, AllocError>
+fn ends(frames: &mut Stack<Frame>, left: Items<Addr>, value: Value) -> Result<StepEnd, AllocError>
     ensures { IfOk result (λ end. (w : World) → rule.ends w left value frames.old ≡ rule.gives w end.left end.act frames.new) }
 {
     match frames.pop() {
@@ -108,9 +104,9 @@ fn ends(
             left,
             act: Act::Ended(value),
         }),
-        Some(mut frame) => {
-            frame.values.push(value)?;
-            frames.push(frame)?;
+        Some(mut below) => {
+            below.values.push(value)?;
+            frames.push(below)?;
             Ok(StepEnd {
                 left,
                 act: Act::Went,

@@ -1,14 +1,13 @@
 -- Typed frames have a row, and the frames that it leaves are typed.
-use Rattle.std.proofs.Common.{◌≡◌, ℕ, zero, suc, List, [], ◌∷◌, ◌++◌, map, Option, Some, None, slice_get, refl, sym, ap, subst}
+use Rattle.std.proofs.Common.{◌≡◌, ℕ, List, [], ◌∷◌, ◌++◌, map, Some, slice_get, refl, ap, subst}
 use Rattle.std.specs.Prelude.{All}
 use Rattle.std.proofs.lemmas.List.Elements.{All-get_or, All-head, All-tail}
 use Rattle.std.proofs.lemmas.Option.{get_or_from_slice_get, slice_get_within}
-use Rattle.clu_tree.specs.Typed.{IsTyped, IsTypedRoutine, IsText, IsTextLayer, IsPrinting, IsPrintingLayer}
+use Rattle.clu_tree.specs.Typed.{IsTyped, IsTypedRoutine, IsTextLayer, IsPrinting, IsPrintingLayer}
 use Rattle.clu_tree.specs.declared.value.Value.{Value}
 use Rattle.clu_tree.specs.declared.value.Value.TheVariants as value
 use Rattle.clu_tree.specs.declared.shape.Shape.{Shape}
 use Rattle.clu_tree.specs.declared.shape.Shape.TheVariants as shape
-use Rattle.clu_tree.specs.declared.shape.Named.{Named}
 use Rattle.clu_tree.specs.declared.tree.Expr.{Expr, out-Expr}
 use Rattle.clu_tree.specs.declared.tree.Expr.TheOpen as ef
 use Rattle.clu_tree.specs.declared.tree.FieldInit.{FieldInit}
@@ -26,8 +25,8 @@ use Rattle.machine_rules.specs.declared.frame.Frame.{Frame}
 use Rattle.machine_rules.specs.declared.act.Act.{Act}
 use Rattle.machine_rules.specs.declared.act.Act.TheVariants as act
 use Rattle.machine_rules.specs.declared.act.Act.TheVariants.{Put}
-use Rattle.machine_rules.specs.Row.{World, Next, with, at_line, line_of, start, entry, leaves, ends, fall_at, fall, taking, eval, exec, on_str, gives, row_at, row_of, row}
-use Rattle.machine_rules.specs.Typing.{HasShape, ValuesHave, ArgsFit, result_of, ExprHas, ItemFits, WorkFits, FrameFits, BelowFit, FramesFit, IsSound, IsNeverStuck}
+use Rattle.machine_rules.specs.Row.{World, with, at_line, line_of, leaves, ends, fall, taking, eval, exec, on_str, gives, row_at, row_of}
+use Rattle.machine_rules.specs.Typing.{HasShape, ValuesHave, result_of, ItemFits, WorkFits, BelowFit, IsSound, IsNeverStuck}
 
 -- what is known of the program, of the first frame's routine and of the frames below
 record Here (w : World) (p : Program) (r : Routine) (f : Frame) (fs : List Frame) : Type 0 where

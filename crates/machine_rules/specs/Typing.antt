@@ -1,6 +1,6 @@
 -- When the values, the work and the frames of a process of a typed program are typed.
 use Rattle.std.specs.Prelude.{◌≡◌, ℕ, List, [], ◌∷◌, ◌++◌, Option, Some, None, slice_get}
-use Rattle.clu_tree.specs.Typed.{IsTyped, IsText, IsPrinting}
+use Rattle.clu_tree.specs.Typed.{IsText, IsPrinting}
 use Rattle.clu_tree.specs.declared.value.Value.{Value}
 use Rattle.clu_tree.specs.declared.value.Value.TheVariants as value
 use Rattle.clu_tree.specs.declared.shape.Shape.{Shape}

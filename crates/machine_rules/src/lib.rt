@@ -14,3 +14,6 @@ pub use item::{Catch, Item};
 pub use law::never_stuck;
 pub use obj::Obj;
 pub use stack::Stack;
+
+#[cfg(test)]
+mod tests;

@@ -5,17 +5,9 @@ use sqlite_items::Items;
 #[derive(Drop)]
 pub enum Obj {
     /// An array, with the index of its first element.
-    Arr {
-        low: i64,
-        items: Items<Value>,
-    },
-    Rec {
-        fields: Items<Value>,
-    },
-    One {
-        tag: u16,
-        value: Value,
-    },
+    Arr { low: i64, items: Items<Value> },
+    Rec { fields: Items<Value> },
+    One { tag: u16, value: Value },
     Lock,
-    Semaphore,
+    Sem,
 }

@@ -1,6 +1,6 @@
 ghost use Rattle.std.specs.Prelude.{◌≡◌, IfOk};
 
-use crate::shape::{Listed, Named, Shape};
+use crate::shape::{Named, Shape};
 use sqlite_items::{Boxed, Items};
 use std::alloc::{AllocError, Global};
 
@@ -75,25 +75,4 @@ pub(crate) fn copy_named_if_any(
             Ok(Some(named))
         }
     }
-}
-
-fn copy_shape_if_any(alloc: Global, shape: &Option<Shape>) -> Result<Option<Shape>, AllocError>
-    ensures { IfOk result (λ s. s ≡ shape.now) }
-{
-    match shape {
-        None => Ok(None),
-        Some(shape) => {
-            let shape = copy_shape(alloc, shape)?;
-            Ok(Some(shape))
-        }
-    }
-}
-
-/// An equal listed exception.
-pub fn copy_listed(alloc: Global, listed: &Listed) -> Result<Listed, AllocError>
-    ensures { IfOk result (λ l. l ≡ listed.now) }
-{
-    let name = listed.name.copy(alloc)?;
-    let value = copy_shape_if_any(alloc, &listed.value)?;
-    Ok(Listed { name, value })
 }
