@@ -8,6 +8,8 @@ mod grammar;
 mod program;
 mod scan;
 mod stmt;
+#[cfg(test)]
+mod tests;
 mod token;
 mod typing;
 mod words;
