@@ -271,6 +271,8 @@ mod tests {
             ("letters", Some("abc\n")),
         ];
         loads(&rt, alloc, &mut shelf, &rows);
+        fs::remove_file(&rt, "letters")?;
+        loads(&rt, alloc, &mut shelf, &[("letters", None)]);
         Ok(())
     }
 }
