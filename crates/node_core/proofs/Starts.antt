@@ -30,8 +30,8 @@ pub named_at : (x : List ℕ) (k : ℕ) (rs : List Routine) (i : ℕ) (r : Routi
 named_at x k [] i r h = cc
 named_at x k (q ∷ qs) i r h = by_test (bytes_eq x q.name)
     (λ e. let n : k ≡ i = ap number_of (rw e at h) in
-        let same : Some q ≡ Some r = ap routine_of (rw e at h) in
-        (0, omega arith, same))
+    let same : Some q ≡ Some r = ap routine_of (rw e at h) in
+    (0, omega arith, same))
     (λ e. let rest = named_at x (suc k) qs i r (rw e at h) in (suc rest.0, rest.1 ∙ omega arith, rest.2))
   where
     number_of : Option (ℕ × Routine) → ℕ

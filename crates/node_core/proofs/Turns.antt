@@ -135,9 +135,10 @@ pub answered : (v : Kept) (program : Program) (n : ℕ) (process : Option (List 
     (v.spent ≡ false) × (false ≡ false) × (program ≡ v.program) × (ran.steps ≡ most_steps v t limit) × (turn v.program v.state ran.steps t ≡ Some (state_of n ran.process 1 t, ran.effects))
 answered v program n process frames picked time t limit spent ran is unspent there l one h =
     let is' : seen program n (Some frames) picked time spent ≡ v = ap (λ (o : Option (List Frame)). seen program n o picked time spent) there ∙ is in
-    let k = taken program n picked time t limit frames ran l one h in
-    ( sym (ap (λ (k : Kept). k.spent) is) ∙ unspent
-    , refl
-    , ap (λ (k : Kept). k.program) is
-    , subst (λ (k : Kept). ran.steps ≡ most_steps k t limit) is' k.most_of
-    , subst (λ (k : Kept). turn k.program k.state ran.steps t ≡ Some (state_of n ran.process 1 t, ran.effects)) is' k.turned)
+    let k = taken program n picked time t limit frames ran l one h in (
+      sym (ap (λ (k : Kept). k.spent) is) ∙ unspent,
+      refl,
+      ap (λ (k : Kept). k.program) is,
+      subst (λ (k : Kept). ran.steps ≡ most_steps k t limit) is' k.most_of,
+      subst (λ (k : Kept). turn k.program k.state ran.steps t ≡ Some (state_of n ran.process 1 t, ran.effects)) is' k.turned,
+    )

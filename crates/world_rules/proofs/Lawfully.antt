@@ -69,11 +69,12 @@ turn_is : (program : Program) (s : NodeState) (k t : ℕ) → IsSome (turn progr
 turn_is program s k t h =
     let can = nat_le 1 k && (nat_le k 64 && nat_le s.time t) in
     let chosen = passed can (and_then (picks s) (λ p. steps program p k (picked_at p t s))) h in
-    let late = and_right (nat_le 1 k) (nat_le k 64 && nat_le s.time t) chosen.test in
-    ( leb-true 1 k (and_left (nat_le 1 k) (nat_le k 64 && nat_le s.time t) chosen.test)
-    , first_some (picks s) (λ p. steps program p k (picked_at p t s)) chosen.is
-    , refl
-    , leb-true s.time t (and_right (nat_le k 64) (nat_le s.time t) late))
+    let late = and_right (nat_le 1 k) (nat_le k 64 && nat_le s.time t) chosen.test in (
+      leb-true 1 k (and_left (nat_le 1 k) (nat_le k 64 && nat_le s.time t) chosen.test),
+      first_some (picks s) (λ p. steps program p k (picked_at p t s)) chosen.is,
+      refl,
+      leb-true s.time t (and_right (nat_le k 64) (nat_le s.time t) late),
+    )
 
 turn_time : (program : Program) (s : NodeState) (k t : ℕ) (a : NodeState × Effects) → turn program s k t ≡ Some a → a.0.time ≡ t
 turn_time program s k t a h =

@@ -24,6 +24,7 @@ pub returns-in_ok-process-in-Some-Start : goal.returns-in_ok-process-in-Some-Sta
 returns-in_ok-process-in-Some-Start c =
     let part : Some (Start c.in-Some-Start.name c.in-Some-Start.field-0-1 c.in-Some-Start.field-0-2) ≡ slice_get c.in-Some.block.now.parts 0 = ap Some (sym c.in-Some-Start.field-0-is) ∙ c.in-Some-Start.ensures.value in
     let n = named c.args.program.now c.in-Some-Start.name c.in-Some-place_of.place (rw c.as_slice.ensures at c.in-Some-place_of.ensures) in
-    let first = rw c.new.ensures.items at c.in_ok-process-in-Some-Start.ensures.starts n.routine n.at in
-    (starts_with c.args.program.now c.in-Some.block.now c.in-Some-Start.name c.in-Some-Start.field-0-1 c.in-Some-Start.field-0-2 c.in-Some-place_of.place c.in_ok-process-in-Some-Start.process c.requires c.in-Some.ensures.value part n first
-    , (c.in_ok-process-in-Some-Start.ensures.fits, not_over c.in_ok-process-in-Some-Start.process c.in-Some-place_of.place n.routine first))
+    let first = rw c.new.ensures.items at c.in_ok-process-in-Some-Start.ensures.starts n.routine n.at in (
+      starts_with c.args.program.now c.in-Some.block.now c.in-Some-Start.name c.in-Some-Start.field-0-1 c.in-Some-Start.field-0-2 c.in-Some-place_of.place c.in_ok-process-in-Some-Start.process c.requires c.in-Some.ensures.value part n first,
+      (c.in_ok-process-in-Some-Start.ensures.fits, not_over c.in_ok-process-in-Some-Start.process c.in-Some-place_of.place n.routine first),
+    )
