@@ -42,10 +42,10 @@ pub data WordsDo (words : List (List ℕ)) (shelf shelf' : Option ShelfTold) (si
 
 -- a text that a run ends with
 pub data IsLastText : List ℕ → Type 0 where
-  none : IsLastText []
-  usage : IsLastText usage_text
-  program : (bytes text : List ℕ) → IsRefusedProgram bytes text → IsLastText text
-  script : (count : ℕ) → IsLastText (refusal_text count)
+  no_text : IsLastText []
+  usage_shown : IsLastText usage_text
+  program_refused : (bytes text : List ℕ) → IsRefusedProgram bytes text → IsLastText text
+  script_refused : (count : ℕ) → IsLastText (refusal_text count)
 
 -- Where shelf and sink tell: a load is one that fails, or the room at the start was less than the bytes that stand for
 -- the journal and for a status without the fault.
