@@ -83,17 +83,24 @@ began_only a b c x w v = subst (λ (t : List ℕ). Began a c t) (append-nil x) (
 pub ends_refused : (program : Program) (script rest : List ℕ) (journal : List Entry) (count : ℕ) (sink mid sink' : Option SinkTold) (end : Result ℕ Stop) → Applied program script journal rest count →
     Wrote sink mid (transcript journal) → IsRefused program journal rest count → Says (refusal_text count) 6 mid sink' end → RunsScript program script sink sink' journal end
 ends_refused program script rest journal count sink mid sink' (Ok status) a wrote why says = record {
-  rest = rest; count = count; text = refusal_text count; applied = a;
+  rest = rest;
+  count = count;
+  text = refusal_text count;
+  applied = a;
   ends = inr (why, says.0, refl);
   wrote = Wrote-append sink mid sink' (transcript journal) (refusal_text count) wrote says.1;
 }
 ends_refused program script rest journal count sink mid sink' (Err Unread) a wrote why says = says
 ends_refused program script rest journal count sink mid sink' (Err Cut) a wrote why says = record {
-  rest = rest; count = count; applied = a;
+  rest = rest;
+  count = count;
+  applied = a;
   wrote = inr (6, refusal_text count, inr (why, refl, refl), CutShort-append sink mid sink' (transcript journal) (refusal_text count) wrote says);
 }
 ends_refused program script rest journal count sink mid sink' (Err Memory) a wrote why says = record {
-  rest = rest; count = count; applied = a;
+  rest = rest;
+  count = count;
+  applied = a;
   wrote = began_only sink mid sink' (transcript journal) wrote says;
 }
 
@@ -101,7 +108,10 @@ ends_refused program script rest journal count sink mid sink' (Err Memory) a wro
 pub ends_all : (program : Program) (script rest : List ℕ) (journal : List Entry) (count : ℕ) (sink sink' : Option SinkTold) → Applied program script journal rest count →
     Wrote sink sink' (transcript journal) → rest ≡ [] → RunsScript program script sink sink' journal (Ok 0)
 ends_all program script rest journal count sink sink' a wrote empty = record {
-  rest = rest; count = count; text = []; applied = a;
+  rest = rest;
+  count = count;
+  text = [];
+  applied = a;
   ends = inl (empty, refl, refl);
   wrote = rw (append-nil (transcript journal)) wrote;
 }
@@ -137,7 +147,9 @@ ends_at program script rest more count journal journal' line world world' sink m
 ends_at program script rest more count journal journal' line world world' sink mid sink' Cut l wrote h =
     let longer : transcript journal' ≡ transcript journal ++ entry_text h.0.entry = rw (h.0.longer) (transcript-more journal h.0.entry) in
     record {
-      rest = more; count = count + 1; applied = gained program script rest more count journal journal' line world world' l h.0;
+      rest = more;
+      count = count + 1;
+      applied = gained program script rest more count journal journal' line world world' l h.0;
       wrote = inl (rw longer (CutShort-append sink mid sink' (transcript journal) (entry_text h.0.entry) wrote h.1));
     }
 ends_at program script rest more count journal journal' line world world' sink mid sink' Memory l wrote h = by_which h.0
@@ -147,7 +159,9 @@ ends_at program script rest more count journal journal' line world world' sink m
     by_which (inr g) =
         let longer : transcript journal' ≡ transcript journal ++ entry_text g.entry = rw (g.longer) (transcript-more journal g.entry) in
         record {
-          rest = more; count = count + 1; applied = gained program script rest more count journal journal' line world world' l g;
+          rest = more;
+          count = count + 1;
+          applied = gained program script rest more count journal journal' line world world' l g;
           wrote = rw longer (Began-append sink mid sink' (transcript journal) (entry_text g.entry) wrote h.1);
         }
 

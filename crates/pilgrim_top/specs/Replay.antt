@@ -55,4 +55,3 @@ pub data Replays (file script : List ℕ) (shelf shelf' : Option ShelfTold) (sin
       Loads script mid shelf' (Ok lines) → RunsScript program lines sink sink' journal end → Unnoticed program journal → Replays file script shelf shelf' sink sink' journal end
   -- memory runs out before the script is run
   ran_out : LoadsSome file script shelf shelf' → journal ≡ [] → Wrote sink sink' [] → end ≡ Err Memory → Replays file script shelf shelf' sink sink' journal end
-

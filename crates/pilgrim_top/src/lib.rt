@@ -4,6 +4,8 @@
 mod replay;
 mod script;
 mod stop;
+#[cfg(test)]
+mod tests;
 mod top;
 mod usage;
 mod written;
