@@ -1,7 +1,10 @@
 -- The number that digits spell.
-use Rattle.std.proofs.Common.{ℕ, ◌+◌, ◌-◌, ◌*◌, ◌≤◌, ◌<◌, List, [], ◌∷◌, length, get_or, drop, arith}
+use Rattle.std.proofs.Common.{fold, ℕ, ◌+◌, ◌-◌, ◌*◌, ◌≤◌, ◌<◌, List, [], ◌∷◌, length, get_or, drop, arith}
 use Rattle.std.proofs.lemmas.List.{at_drop_more}
-use Rattle.clu_reader.specs.Digits.{number_from}
+
+-- the number that digits spell behind those of `n`
+abbrev pub number_from : ℕ → List ℕ → ℕ
+number_from = fold (λ n b. 10 * n + (b - 48))
 
 -- more digits make no smaller number
 pub number_from-grows : (n : ℕ) (bytes : List ℕ) → n ≤ number_from n bytes

@@ -22,7 +22,7 @@ use Rattle.clu_tree.specs.Grammar.{Tokens, ReadsExpr, ReadsStmt, ReadsSimple, Re
 use Rattle.clu_tree.specs.Grammar as grammar
 use Rattle.std.proofs.lemmas.List.{append-nil, nil_from_length}
 use Rattle.clu_reader.specs.Plan.{HasKeys, BeginsWith, ReadsStart, ReadsRoutines, no_routine, a_routine}
-use Rattle.clu_reader.specs.Joins.{Joins}
+use Rattle.clu_reader.proofs.Joining.{Joins}
 use Rattle.clu_reader.proofs.Joining.{joins-none, joins-more}
 use Rattle.clu_reader.proofs.Grouping.{grouped, ungrouped, one_expr, expr-shrinks}
 

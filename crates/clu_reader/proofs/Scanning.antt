@@ -6,7 +6,7 @@ use Rattle.clu_tree.specs.declared.lexeme.Lexeme.{Lexeme}
 use Rattle.clu_tree.specs.Lexical.{is_blank, Begins, Scans, end, blank, new_line, token}
 use Rattle.clu_reader.specs.Extent.{extent}
 use Rattle.std.proofs.lemmas.List.{drop_more, drop_all, drop-drop, append-nil, length-drop}
-use Rattle.clu_reader.specs.Joins.{Joins}
+use Rattle.clu_reader.proofs.Joining.{Joins}
 use Rattle.clu_reader.proofs.Joining.{joins-none, joins-same, joins-more}
 use Rattle.clu_reader.proofs.Spelling.{begins-only}
 

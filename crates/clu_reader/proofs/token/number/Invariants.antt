@@ -1,5 +1,5 @@
 use Rattle.std.proofs.Common.{◌≡◌, ◌<◌, ◌^◌, drop}
-use Rattle.clu_reader.specs.Digits.{number_from}
+use Rattle.clu_reader.proofs.Numbers.{number_from}
 use Rattle.clu_reader.proofs.token.number.Given as goal
 
 abbrev pub invariant-loop-digit : goal.invariant-loop-digit
