@@ -111,3 +111,7 @@ pub record Reads (text : List ℕ) (program : Program) : Type 0 where
   pub short : length text ≤ 1048576
   pub scanned : HasTokens text tokens
   pub read : ReadsProgram tokens program
+
+-- some text reads as the program
+abbrev pub IsRead : Program → Type 0
+IsRead program = (text : List ℕ) × Reads text program

@@ -26,6 +26,7 @@ pub enum WorldFault {
 
 /// The nodes of an accepted program with what was applied to them, which contracts see as the program and the list of
 /// the events applied. Once a call has answered `Memory` the world is spent, and each later one does.
+#[derive(Drop)]
 pub struct DebugWorld<'p> {
     node: Node<'p>,
     list: Items<Told>,

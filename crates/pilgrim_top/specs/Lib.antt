@@ -1,1 +1,4 @@
+pub mod Ends
+pub mod Replay
+pub mod Script
 pub mod Usage
