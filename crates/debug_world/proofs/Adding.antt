@@ -1,28 +1,27 @@
 -- One turn more of a world.
-use Rattle.std.proofs.Common.{◌≡◌, ◌≢◌, ℕ, ◌≤◌, Bool, true, false, ◌&&◌, ◌==◌, nat_le, List, [], ◌∷◌, ◌++◌, reverse, Option, Some, None, is_some, IsSome, length, append-nil, refl, sym, ◌∙◌, ap, subst, arith}
+use Rattle.std.proofs.Common.{◌≡◌, ℕ, ◌≤◌, Bool, true, false, nat_le, List, [], ◌∷◌, ◌++◌, reverse, Option, Some, None, is_some, IsSome, length, append-nil, refl, sym, ◌∙◌, ap, subst, arith}
 use Rattle.std.proofs.lemmas.Bool.{eqb-true, leb-true}
 use Rattle.std.proofs.lemmas.List.{reverse-append}
 use Rattle.clu_tree.specs.Typed.{IsTyped}
 use Rattle.clu_tree.specs.declared.program.NodeDecl.{NodeDecl}
 use Rattle.clu_tree.specs.declared.program.Program.{Program}
-use Rattle.world_types.specs.declared.event.Event.{Event}
 use Rattle.world_types.specs.declared.event.Event.TheVariants.{Turn}
 use Rattle.world_types.specs.declared.event.Told.{Told}
 use Rattle.world_types.specs.declared.event.PlainEvent.TheVariants as plainly
 use Rattle.world_types.specs.declared.effects.Sent.{Sent}
 use Rattle.world_types.specs.declared.effects.Effects.{Effects}
 use Rattle.world_types.specs.declared.effects.Entry.{Entry}
-use Rattle.world_rules.specs.Plain.{Rules, World, join, node_at, nothing, plain}
-use Rattle.world_rules.specs.Said.{cut, last_stamp, marked, plain_events, rounds}
-use Rattle.world_rules.specs.Legal.{Follows, bare, enter, first_failing, first_of, most, reached, settled, told}
+use Rattle.world_rules.specs.Plain.{World, join, node_at, nothing, plain}
+use Rattle.world_rules.specs.Said.{last_stamp, marked, plain_events}
+use Rattle.world_rules.specs.Legal.{Follows, bare, enter, first_failing, first_of, most, reached, settled}
 use Rattle.world_rules.specs.Node.{NodeState, first_of_program, nodes_from, picks, rules_of, turn}
 use Rattle.world_rules.proofs.Erasing.{cut-plain, events-append, plain-append}
 use Rattle.world_rules.proofs.Following.{and_left, and_right, passes}
 use Rattle.world_rules.proofs.Lawfully.{lawful}
 use Rattle.world_rules.proofs.Plainly.{gives, marked-plain, most-plain}
 use Rattle.node_core.specs.Kept.{Kept, most_steps, no_marks}
-use Rattle.debug_world.specs.Seen.{Adds, AreTurns, IsTurn, Keeps, Leaves, Refuses, Seen, turned}
-use Rattle.debug_world.proofs.Turning.{failing, some_fst, most-alike, reached_is, short, some_of, turn-shown, turns_plain, last_is}
+use Rattle.debug_world.specs.Seen.{Adds, AreTurns, Keeps, Refuses, Seen, turned}
+use Rattle.debug_world.proofs.Turning.{failing, some_fst, most-alike, reached_is, short, some_of, turn-shown, turns_plain}
 
 join-nothing : (x : Effects) → x.shown ≡ [] → bare (join x nothing) ≡ x
 join-nothing x h = rw (append-nil x.sent, append-nil x.lines, append-nil x.marks) (ap (λ (t : List ℕ). record x { shown = t }) (sym h))

@@ -1,26 +1,21 @@
 -- What a list of turns of one node says, and one turn more.
-use Rattle.std.proofs.Common.{◌≡◌, ℕ, zero, suc, ◌≤◌, ◌-◌, Bool, true, false, not, ◌&&◌, ◌||◌, if◌then◌else◌, ◌==◌, nat_le, List, [], ◌∷◌, ◌++◌, reverse, Option, Some, None, is_some, is_none, IsSome, slice_get, slice_set, refl, sym, ◌∙◌, ap, subst, arith, append-nil}
-use Rattle.std.proofs.lemmas.Bool.{eqb-true, eq-eqb}
-use Rattle.std.proofs.lemmas.List.{reverse-append}
+use Rattle.std.proofs.Common.{◌≡◌, ℕ, zero, suc, ◌-◌, Bool, true, false, ◌&&◌, ◌==◌, nat_le, List, [], ◌∷◌, reverse, Option, Some, None, is_some, IsSome, refl, sym, ap, subst, arith}
+use Rattle.std.proofs.lemmas.Bool.{eqb-true}
 use Rattle.clu_tree.specs.declared.program.Program.{Program}
-use Rattle.world_types.specs.declared.event.Event.{Event}
-use Rattle.world_types.specs.declared.event.Event.TheVariants.{Turn}
 use Rattle.world_types.specs.declared.event.Told.{Told}
-use Rattle.world_types.specs.declared.event.PlainEvent.TheVariants as plainly
 use Rattle.world_types.specs.declared.effects.Sent.{Sent}
 use Rattle.world_types.specs.declared.effects.Effects.{Effects}
-use Rattle.world_types.specs.declared.effects.Entry.{Entry}
-use Rattle.world_rules.specs.Plain.{Rules, World, and_then, behind, join, node_at, nothing, plain, step}
-use Rattle.world_rules.specs.Said.{cut, erased, goal, halted, has_quit, is_open, last_of, last_stamp, marked, plain_events, rounds, turned as turned_in}
-use Rattle.world_rules.specs.Legal.{ArePlain, Follows, Test, all_tests, allowed, bare, blocked, enter, first_failing, first_of, is_node, most, passed, reached, settled, told, unmarked}
+use Rattle.world_rules.specs.Plain.{Rules, World, and_then, behind, plain}
+use Rattle.world_rules.specs.Said.{cut, last_of, last_stamp, marked, plain_events, rounds}
+use Rattle.world_rules.specs.Legal.{ArePlain, Test, first_failing, first_of, is_node, most, passed, reached}
 use Rattle.world_rules.specs.Node.{NodeState, acted, first_of_program, picked_at, picks, ready_frames, rules_of, step_of, steps, turn}
 use Rattle.machine_rules.specs.declared.frame.Frame.{Frame}
 use Rattle.machine_rules.specs.declared.act.Act.{Act}
 use Rattle.machine_rules.specs.declared.act.Act.TheVariants as act
 use Rattle.machine_rules.specs.Row.{bare_world, row}
-use Rattle.world_rules.proofs.Erasing.{cut-plain, erased-plain, events-append, halted-plain, plain-append, reverse-twice, rounds-plain}
-use Rattle.world_rules.proofs.Lawfully.{lawful, passed_at}
-use Rattle.world_rules.proofs.Plainly.{and_then_some, goal-plain, marked-plain, most-plain, quit-plain, unblocked, unmarked-plain}
+use Rattle.world_rules.proofs.Erasing.{cut-plain, erased-plain, halted-plain, reverse-twice, rounds-plain}
+use Rattle.world_rules.proofs.Lawfully.{passed_at}
+use Rattle.world_rules.proofs.Plainly.{and_then_some, goal-plain, marked-plain, quit-plain, unblocked, unmarked-plain}
 use Rattle.node_core.specs.Kept.{no_marks}
 use Rattle.debug_world.specs.Seen.{AreTurns, turned}
 

@@ -1,5 +1,5 @@
 -- What the rows tell of their acts, and one step more of a turn.
-use Rattle.std.proofs.Common.{◌≡◌, ◌≢◌, ◌<◌, ◌≤◌, ℕ, zero, suc, ◌+◌, ◌++◌, List, [], ◌∷◌, Option, Some, None, slice_get, refl, sym, ◌∙◌, ap, subst, arith, append-nil, add-one}
+use Rattle.std.proofs.Common.{◌≡◌, ◌≢◌, ◌<◌, ℕ, zero, suc, ◌+◌, List, [], ◌∷◌, Option, Some, None, slice_get, refl, sym, ◌∙◌, ap, subst, arith, append-nil, add-one}
 use Rattle.clu_tree.specs.declared.value.Value.{Value}
 use Rattle.clu_tree.specs.declared.value.Value.TheVariants as value
 use Rattle.clu_tree.specs.declared.value.Addr.{Addr}
@@ -20,14 +20,13 @@ use Rattle.machine_rules.specs.declared.item.Item.TheVariants as i
 use Rattle.machine_rules.specs.declared.frame.Frame.{Frame}
 use Rattle.machine_rules.specs.declared.act.Act.{Act}
 use Rattle.machine_rules.specs.declared.act.Act.TheVariants as act
-use Rattle.machine_rules.specs.Row.{Next, World, at_line, bare_world, ends, eval, exec, fall, fall_at, leaves, line_of, on_str, row, row_at, row_of, start, taking}
+use Rattle.machine_rules.specs.Row.{Next, World, at_line, bare_world, ends, eval, exec, fall, fall_at, leaves, line_of, row, row_at, row_of}
 use Rattle.world_types.specs.declared.effects.Effects.{Effects}
 use Rattle.world_rules.specs.Plain.{and_then, behind, join, nothing}
 use Rattle.world_rules.specs.Node.{NodeState, acted, step_of, steps}
 use Rattle.world_rules.proofs.Erasing.{join-assoc}
 use Rattle.world_rules.proofs.Plainly.{and_then_some}
 use Rattle.node_core.specs.Kept.{state_of}
-use Rattle.node_core.specs.declared.turn.Ran.{Ran}
 use Rattle.node_core.specs.Acts.{IsNoted, RanTo, noted}
 
 -- The act is one of this part of the language, and the process is over exactly where it ended.

@@ -1,22 +1,21 @@
 -- The process that the node of a typed program starts.
-use Rattle.std.proofs.Common.{◌≡◌, ◌≢◌, ◌<◌, ◌≤◌, ℕ, zero, suc, ◌+◌, Bool, true, false, cond, List, [], ◌∷◌, ◌++◌, length, map, Option, Some, None, pos, All, Any, slice_get, get_or, refl, sym, ◌∙◌, ap, subst, arith}
+use Rattle.std.proofs.Common.{◌≡◌, ◌≢◌, ◌<◌, ◌≤◌, ℕ, zero, suc, ◌+◌, Bool, true, false, List, [], ◌∷◌, length, Option, Some, None, All, slice_get, get_or, refl, sym, ◌∙◌, ap, subst, arith}
 use Rattle.std.specs.Option.{option_map}
 use Rattle.std.specs.Str.{bytes_eq}
 use Rattle.std.proofs.lemmas.List.Elements.{All-get_or}
 use Rattle.std.proofs.lemmas.Option.{get_or_from_slice_get, slice_get_within}
 use Rattle.std.proofs.lemmas.Slice.Eq.{bytes_eq-Decides}
-use Rattle.clu_tree.specs.Typed.{AreNumbered, HasRoutine, IsTyped, IsTypedNode, IsTypedPart, IsTypedRoutine}
+use Rattle.clu_tree.specs.Typed.{HasRoutine, IsTyped, IsTypedNode, IsTypedPart, IsTypedRoutine}
 use Rattle.clu_tree.specs.declared.value.Value.{Value}
 use Rattle.clu_tree.specs.declared.program.Routine.{Routine}
-use Rattle.clu_tree.specs.declared.program.NodePart.{NodePart}
 use Rattle.clu_tree.specs.declared.program.NodePart.TheVariants.{Export, Start}
 use Rattle.clu_tree.specs.declared.program.NodeDecl.{NodeDecl}
 use Rattle.clu_tree.specs.declared.program.Program.{Program}
 use Rattle.machine_rules.specs.declared.frame.Frame.{Frame}
 use Rattle.machine_rules.specs.Row.{start}
-use Rattle.machine_rules.specs.Typing.{ArgsFit, FramesFit}
-use Rattle.world_rules.specs.Node.{Live, first_of_program, nodes_from, routine_named, started, started_as}
-use Rattle.node_core.specs.Kept.{IsRunning, StartsAs, live, state_of}
+use Rattle.machine_rules.specs.Typing.{ArgsFit}
+use Rattle.world_rules.specs.Node.{routine_named}
+use Rattle.node_core.specs.Kept.{StartsAs}
 
 by_test : {P : Type 0} (b : Bool) → (b ≡ true → P) → (b ≡ false → P) → P
 by_test true h k = h refl

@@ -1,14 +1,14 @@
 -- How many steps a turn takes.
-use Rattle.std.proofs.Common.{◌≡◌, ◌≢◌, ◌≤◌, ◌<◌, ◌⊎◌, inl, inr, ℕ, zero, suc, ◌+◌, ◌-◌, Bool, true, false, not, ◌&&◌, if◌then◌else◌, nat_le, nat_lt, List, [], ◌∷◌, Option, Some, None, is_some, IsSome, min, refl, sym, ◌∙◌, ap, subst, arith}
+use Rattle.std.proofs.Common.{◌≡◌, ◌≤◌, ◌<◌, ◌⊎◌, inl, inr, ℕ, zero, suc, ◌-◌, Bool, true, false, ◌&&◌, nat_le, nat_lt, List, Option, Some, None, is_some, IsSome, min, refl, sym, ◌∙◌, ap, subst, arith}
 use Rattle.std.proofs.lemmas.Bool.{cases_lt, leb-true, le-leb}
 use Rattle.clu_tree.specs.declared.program.Program.{Program}
 use Rattle.machine_rules.specs.declared.frame.Frame.{Frame}
 use Rattle.world_types.specs.declared.effects.Effects.{Effects}
 use Rattle.world_rules.specs.Plain.{Rules, and_then, behind}
-use Rattle.world_rules.specs.Legal.{allowed, most, unmarked}
-use Rattle.world_rules.specs.Node.{NodeState, or_else, picked_at, picks, ready_above, rules_of, step_of, steps, turn}
+use Rattle.world_rules.specs.Legal.{most}
+use Rattle.world_rules.specs.Node.{NodeState, picks, rules_of, step_of, steps, turn}
 use Rattle.world_rules.proofs.Plainly.{and_then_some, unmarked-plain}
-use Rattle.node_core.specs.Kept.{Kept, live, most_steps, no_marks, state_of}
+use Rattle.node_core.specs.Kept.{Kept, most_steps, no_marks, state_of}
 use Rattle.node_core.specs.Acts.{RanTo}
 use Rattle.node_core.specs.declared.turn.Ran.{Ran}
 use Rattle.node_core.proofs.Acts.{some_fst}

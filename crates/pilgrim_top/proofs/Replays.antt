@@ -1,18 +1,17 @@
 -- What follows of how a replay ends.
-use Rattle.std.proofs.Common.{◌≡◌, ◌≢◌, ◌⊎◌, ◌<◌, inl, inr, ℕ, List, [], ◌∷◌, ◌++◌, length, Option, Result, Ok, Err, refl, sym, ◌∙◌, ap, subst, arith, append-nil, string_bytes}
+use Rattle.std.proofs.Common.{◌≡◌, ◌≢◌, ◌⊎◌, ◌<◌, inl, inr, ℕ, List, [], ◌++◌, Option, Result, Ok, Err, refl, sym, ◌∙◌, subst, arith, append-nil, string_bytes}
 use Rattle.clu_tree.specs.declared.program.Program.{Program}
 use Rattle.world_types.specs.declared.effects.Entry.{Entry}
 use Rattle.world_rules.specs.Laws.{ErasingLaws}
 use Rattle.world_rules.specs.Node.{IsLegal}
 use Rattle.world_rules.specs.Transcript.{transcript}
-use Rattle.outside_edge.specs.Told.{Tells}
-use Rattle.outside_edge.specs.Shelf.{ShelfTold, Loads, LoadFails}
-use Rattle.outside_edge.specs.Sink.{SinkTold, Exceeds, CutShort, Wrote}
+use Rattle.outside_edge.specs.Shelf.{ShelfTold}
+use Rattle.outside_edge.specs.Sink.{SinkTold, CutShort}
 use Rattle.outside_edge.proofs.Loading.{Loads-failed}
 use Rattle.outside_edge.proofs.Writing.{CutShort-exceeds}
 use Rattle.pilgrim_top.specs.Ends.{CountsFaults, CountsPuts, Says, status_of}
-use Rattle.pilgrim_top.specs.Replay.{IsRefusedProgram, Replays, Unnoticed, unread, refused, unscripted, ran, ran_out}
-use Rattle.pilgrim_top.specs.Script.{RunsScript, Finishes, refusal_text}
+use Rattle.pilgrim_top.specs.Replay.{Replays, Unnoticed, unread, refused, unscripted, ran, ran_out}
+use Rattle.pilgrim_top.specs.Script.{RunsScript, Finishes}
 use Rattle.pilgrim_top.specs.Top.{Does, FaultCause, IsLastText, ShowsUsage, first_load, no_room, no_text, program_refused, script_refused, second_load, usage_shown, usage_text}
 use Rattle.pilgrim_top.specs.declared.usage.Usage.{Usage}
 use Rattle.pilgrim_top.specs.declared.usage.Usage.TheVariants.{Check, Replay, Erase, Load, Run}

@@ -1,5 +1,5 @@
 -- The lines of a script, one after the other.
-use Rattle.std.proofs.Common.{◌≡◌, ◌≢◌, ◌⊎◌, ◌≤◌, ◌<◌, ◌==◌, inl, inr, ℕ, suc, ◌+◌, Bool, true, false, List, [], ◌∷◌, ◌++◌, length, reverse, All, Option, Some, None, Result, Ok, Err, refl, sym, ◌∙◌, ap, subst, arith, append_assoc, append-nil, length-append}
+use Rattle.std.proofs.Common.{◌≡◌, ◌≢◌, ◌⊎◌, ◌<◌, ◌==◌, inl, inr, ℕ, suc, ◌+◌, Bool, true, false, List, [], ◌∷◌, ◌++◌, length, reverse, Option, Some, Result, Ok, Err, refl, sym, ◌∙◌, ap, subst, arith, append_assoc, append-nil, length-append}
 use Rattle.std.specs.List.{flat_map}
 use Rattle.std.proofs.lemmas.Bool.{eqb-true}
 use Rattle.std.proofs.lemmas.List.{reverse-append}
@@ -9,18 +9,17 @@ use Rattle.world_types.specs.declared.event.Event.{Event}
 use Rattle.world_types.specs.declared.event.Event.TheVariants.{Turn}
 use Rattle.world_types.specs.declared.event.Told.{Told}
 use Rattle.world_types.specs.declared.effects.Entry.{Entry}
-use Rattle.world_rules.specs.Laws.{past_of}
-use Rattle.world_rules.specs.Legal.{Follows, first_failing, settled, told, tolds}
-use Rattle.world_rules.specs.Node.{IsLegal, first_of_program, rules_of}
-use Rattle.world_rules.specs.Transcript.{transcript, written_by}
+use Rattle.world_rules.specs.Legal.{first_failing, told, tolds}
+use Rattle.world_rules.specs.Node.{first_of_program, rules_of}
+use Rattle.world_rules.specs.Transcript.{transcript}
 use Rattle.world_rules.proofs.Following.{tolds-reverse}
-use Rattle.journal_text.specs.Grammar.{BeginsWithNoLine, InGrammar, IsEvent, most_lines}
+use Rattle.journal_text.specs.Grammar.{InGrammar, IsEvent, most_lines}
 use Rattle.journal_text.specs.Spelling.{spelled}
-use Rattle.outside_edge.specs.Sink.{SinkTold, Wrote, CutShort, Began}
-use Rattle.outside_edge.proofs.Writing.{Began-append, Began-whole, CutShort-append, Wrote-append, Wrote-nothing}
+use Rattle.outside_edge.specs.Sink.{SinkTold, Wrote, Began}
+use Rattle.outside_edge.proofs.Writing.{Began-append, Began-whole, CutShort-append, Wrote-append}
 use Rattle.debug_world.specs.Seen.{Adds, IsTurn, Refuses, Seen}
 use Rattle.pilgrim_top.specs.Ends.{Says}
-use Rattle.pilgrim_top.specs.Script.{Applied, AppliesLine, AreLines, Ended, Finishes, Gained, IsRefused, illegal, RanOut, RunsScript, WasCut, entry_text, refusal_text}
+use Rattle.pilgrim_top.specs.Script.{Applied, AppliesLine, Gained, IsRefused, illegal, RanOut, RunsScript, entry_text, refusal_text}
 use Rattle.pilgrim_top.specs.declared.stop.Stop.{Stop}
 use Rattle.pilgrim_top.specs.declared.stop.Stop.TheVariants.{Unread, Cut, Memory}
 

@@ -1,20 +1,18 @@
 -- How a replay may end.
-use Rattle.std.specs.Prelude.{◌≡◌, ◌⊎◌, ◌<◌, ◌≤◌, ℕ, List, [], ◌∷◌, ◌++◌, length, codes, decimal, Option, Result, Ok, Err}
+use Rattle.std.specs.Prelude.{◌≡◌, ◌<◌, ◌≤◌, ℕ, List, [], ◌∷◌, ◌++◌, length, codes, decimal, Option, Result, Ok, Err}
 use Rattle.clu_tree.specs.Typed.{IsAccepted}
 use Rattle.clu_tree.specs.declared.program.Program.{Program}
 use Rattle.world_types.specs.declared.effects.Entry.{Entry}
 use Rattle.world_rules.specs.Legal.{ErasesLegally, SameEffects}
 use Rattle.world_rules.specs.Node.{first_of_program, rules_of}
-use Rattle.world_rules.specs.Transcript.{transcript}
-use Rattle.outside_edge.specs.Told.{Tells}
-use Rattle.outside_edge.specs.Shelf.{ShelfTold, Loads, LoadFails}
-use Rattle.outside_edge.specs.Sink.{SinkTold, Exceeds, Wrote}
+use Rattle.outside_edge.specs.Shelf.{ShelfTold, Loads}
+use Rattle.outside_edge.specs.Sink.{SinkTold, Wrote}
 use Rattle.outside_edge.specs.declared.shelf.LoadFault.{LoadFault}
 use Rattle.outside_edge.specs.declared.shelf.LoadFault.TheVariants.{Failed}
 use Rattle.pilgrim_top.specs.Ends.{Says}
 use Rattle.pilgrim_top.specs.Script.{RunsScript}
 use Rattle.pilgrim_top.specs.declared.stop.Stop.{Stop}
-use Rattle.pilgrim_top.specs.declared.stop.Stop.TheVariants.{Unread, Cut, Memory}
+use Rattle.pilgrim_top.specs.declared.stop.Stop.TheVariants.{Unread, Memory}
 
 -- the greatest length of a program, 1 MiB
 abbrev pub most_bytes : ℕ

@@ -5,7 +5,7 @@ use Rattle.clu_tree.specs.declared.program.Program.{Program}
 use Rattle.world_types.specs.declared.event.Told.{Told}
 use Rattle.world_types.specs.declared.effects.Entry.{Entry}
 use Rattle.world_rules.specs.Laws.{past_of}
-use Rattle.world_rules.specs.Legal.{ErasesLegally, SameEffects, first_failing, settled, told, tolds}
+use Rattle.world_rules.specs.Legal.{first_failing, settled, told, tolds}
 use Rattle.world_rules.specs.Node.{IsLegal, first_of_program, rules_of}
 use Rattle.world_rules.specs.Transcript.{transcript, written_by}
 use Rattle.journal_text.specs.Grammar.{BeginsWithNoLine, InGrammar, most_lines}

@@ -1,5 +1,5 @@
 -- How a run of a command line may end.
-use Rattle.std.specs.Prelude.{◌≡◌, ◌≢◌, ◌⊎◌, ◌<◌, ℕ, List, [], ◌∷◌, ◌++◌, length, codes, Option, Result, Ok, Err, string_bytes}
+use Rattle.std.specs.Prelude.{◌≡◌, ℕ, List, [], ◌∷◌, ◌++◌, length, codes, Option, Result, Ok, Err, string_bytes}
 use Rattle.world_types.specs.declared.effects.Entry.{Entry}
 use Rattle.world_rules.specs.Transcript.{transcript}
 use Rattle.outside_edge.specs.Told.{Tells}
@@ -12,7 +12,7 @@ use Rattle.pilgrim_top.specs.Usage.{IsUsage}
 use Rattle.pilgrim_top.specs.declared.usage.Usage.{Usage}
 use Rattle.pilgrim_top.specs.declared.usage.Usage.TheVariants.{Check, Replay, Erase, Load, Run}
 use Rattle.pilgrim_top.specs.declared.stop.Stop.{Stop}
-use Rattle.pilgrim_top.specs.declared.stop.Stop.TheVariants.{Unread, Cut, Memory}
+use Rattle.pilgrim_top.specs.declared.stop.Stop.TheVariants.{Memory}
 
 abbrev pub usage_text : List ℕ
 usage_text = codes "usage: check, replay, erase, load or run" ++ 10 ∷ []

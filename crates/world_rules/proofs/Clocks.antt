@@ -1,15 +1,15 @@
 -- Clocks that keep a total and an opening read the cut, and a clock that lags reads it where a node needs it.
-use Rattle.std.proofs.Common.{◌≡◌, ℕ, zero, suc, ◌+◌, ◌-◌, ◌≤◌, ◌<◌, min, Bool, true, false, not, ◌&&◌, ◌||◌, ◌⊎◌, inl, inr, List, [], ◌∷◌, ◌++◌, reverse, if◌then◌else◌, ◌==◌, nat_le, length, Option, Some, None, is_none, is_some, refl, sym, ◌∙◌, ap, arith}
-use Rattle.std.proofs.lemmas.Bool.{leb-true, le-leb, eqb-true, eq-eqb, cases_lt}
+use Rattle.std.proofs.Common.{◌≡◌, ℕ, zero, suc, ◌+◌, ◌-◌, ◌≤◌, min, Bool, true, false, not, inl, inr, List, [], ◌∷◌, ◌==◌, length, Option, Some, None, refl, sym, ap, arith}
+use Rattle.std.proofs.lemmas.Bool.{eqb-true, cases_lt}
 use Rattle.world_types.specs.declared.event.Event.{Event}
-use Rattle.world_types.specs.declared.event.Event.TheVariants.{Turn, Packet, Tick, Stop, Halt, Resume, Ask, Answer, Set, Clear, HaltAll, ResumeAll, Say, Quit}
+use Rattle.world_types.specs.declared.event.Event.TheVariants.{Turn, Packet, Tick, Stop, Halt, Resume, Ask, Answer, Set, Clear, HaltAll, ResumeAll}
 use Rattle.world_types.specs.declared.event.Told.{Told}
 use Rattle.world_rules.specs.Plain.{Rules, World}
-use Rattle.world_rules.specs.Said.{node_of, halted, halted_by, all_halted, last_by, last_of, last_stamp, Round, is_open, opened, closed, closed_at, rounds_by, rounds, end_at, halted_time, cut, read_by}
-use Rattle.world_rules.specs.Legal.{tests, reached, passed, first_failing, InTime}
-use Rattle.world_rules.specs.Clock.{length_of, total, opening_of, opening, frozen_at, clock_reads, EndsBy, IsOver, AllOver, Ordered, ClosedBy, Behind, Lacks, KnowsBy, Knows}
-use Rattle.world_rules.proofs.Cuts.{rounds_ordered, all_over}
-use Rattle.world_rules.proofs.Following.{by_test, AllPass, and_left, and_right, le_true, meets_all}
+use Rattle.world_rules.specs.Said.{halted, all_halted, last_of, Round, is_open, opened, closed, closed_at, rounds, end_at, halted_time, cut, read_by}
+use Rattle.world_rules.specs.Legal.{tests}
+use Rattle.world_rules.specs.Clock.{length_of, total, opening_of, opening, clock_reads, EndsBy, IsOver, AllOver, Ordered, ClosedBy, Behind, Lacks, KnowsBy, Knows}
+use Rattle.world_rules.proofs.Cuts.{all_over}
+use Rattle.world_rules.proofs.Following.{by_test, AllPass, and_left, and_right, le_true}
 
 -- ---- a total and an opening are enough
 

@@ -2,14 +2,13 @@
 use Rattle.std.proofs.Common.{◌≡◌, ℕ, ◌+◌, ◌-◌, ◌≤◌, Bool, true, false, List, [], ◌∷◌, ◌++◌, reverse, if◌then◌else◌, ◌==◌, Option, Some, None, refl, sym, ◌∙◌, ap, arith, append_assoc}
 use Rattle.std.proofs.lemmas.List.{reverse-append}
 use Rattle.world_types.specs.declared.event.Event.{Event}
-use Rattle.world_types.specs.declared.event.Event.TheVariants.{Turn, Packet, Tick, Stop, Halt, Resume, Ask, Answer, Set, Clear, HaltAll, ResumeAll}
+use Rattle.world_types.specs.declared.event.Event.TheVariants.{Turn, Packet, Tick, Stop, Resume, HaltAll, ResumeAll}
 use Rattle.world_types.specs.declared.event.Told.{Told}
-use Rattle.world_types.specs.declared.effects.Entry.{Entry}
 use Rattle.world_types.specs.declared.effects.Effects.{Effects}
 use Rattle.world_types.specs.declared.event.PlainEvent.{PlainEvent}
 use Rattle.world_rules.specs.Plain.{Rules, World, and_then, step, behind, plain, join, nothing}
 use Rattle.world_rules.specs.Said.{node_of, halted, halted_by, Round, is_open, opened, closed_at, closed, rounds_by, rounds, end_at, halted_time, cut, held, resumed, items_by, items, erased, erase, plainly_at, plain_events}
-use Rattle.world_rules.specs.Legal.{ReadsBy, InTime, told, tolds, IsPlainEvent, ArePlain}
+use Rattle.world_rules.specs.Legal.{ReadsBy, InTime, IsPlainEvent, ArePlain}
 
 by_test : {P : Type 0} (b : Bool) → (b ≡ true → P) → (b ≡ false → P) → P
 by_test true h k = h refl

@@ -1,17 +1,16 @@
 -- What the numbered conditions tell, and the effects of a legal list.
-use Rattle.std.proofs.Common.{◌≡◌, ℕ, zero, suc, ◌+◌, ◌-◌, ◌≤◌, Bool, true, false, not, ◌&&◌, ◌||◌, List, [], ◌∷◌, ◌++◌, reverse, if◌then◌else◌, ◌==◌, nat_le, nat_lt, length, Option, Some, None, is_none, is_some, refl, sym, ◌∙◌, ap, arith, append_assoc}
-use Rattle.std.proofs.lemmas.Bool.{leb-true, le-leb}
+use Rattle.std.proofs.Common.{◌≡◌, ℕ, ◌≤◌, Bool, true, false, ◌&&◌, List, [], ◌∷◌, ◌++◌, reverse, nat_le, Option, Some, None, refl, ◌∙◌, ap, arith}
+use Rattle.std.proofs.lemmas.Bool.{leb-true}
 use Rattle.std.proofs.lemmas.List.{reverse-append}
 use Rattle.world_types.specs.declared.event.Event.{Event}
-use Rattle.world_types.specs.declared.event.Event.TheVariants.{Turn, Packet, Tick, Stop, Halt, Resume, Ask, Answer, Set, Clear, HaltAll, ResumeAll}
+use Rattle.world_types.specs.declared.event.Event.TheVariants.{Turn, Packet, Tick}
 use Rattle.world_types.specs.declared.event.Told.{Told}
 use Rattle.world_types.specs.declared.effects.Entry.{Entry}
 use Rattle.world_types.specs.declared.effects.Effects.{Effects}
-use Rattle.world_types.specs.declared.event.PlainEvent.{PlainEvent}
-use Rattle.world_rules.specs.Plain.{Rules, World, and_then, step, behind, plain, join, nothing}
-use Rattle.world_rules.specs.Said.{node_of, halted, last_of, last_stamp, is_open, rounds, cut, read_by, erased, erase, items, plain_events}
-use Rattle.world_rules.specs.Legal.{Test, first_of, tests, all_tests, first_failing, world_or, reached, passed, showing, shown_by, enter, told, tolds, bare, effects_of, Follows, LegalPast, Legal, ReadsBy, InTime, SameEffects}
-use Rattle.world_rules.proofs.Erasing.{erased-more, events-append, plain-append, join-assoc}
+use Rattle.world_rules.specs.Plain.{Rules, World, and_then, plain, join, nothing}
+use Rattle.world_rules.specs.Said.{node_of, last_of, last_stamp, rounds, cut, read_by, erased, items, plain_events}
+use Rattle.world_rules.specs.Legal.{Test, first_of, tests, all_tests, first_failing, reached, passed, showing, shown_by, told, tolds, bare, effects_of, LegalPast, Legal, ReadsBy, InTime, SameEffects}
+use Rattle.world_rules.proofs.Erasing.{erased-more, events-append, plain-append}
 
 pub by_test : {P : Type 0} (b : Bool) → (b ≡ true → P) → (b ≡ false → P) → P
 by_test true h k = h refl

@@ -1,16 +1,16 @@
 -- What can be read off a node tells what is possible there.
-use Rattle.std.proofs.Common.{◌≡◌, ℕ, zero, suc, ◌≤◌, Bool, true, false, ◌&&◌, if◌then◌else◌, nat_le, List, [], ◌∷◌, Option, Some, None, is_some, IsSome, refl, sym, ◌∙◌, ap, arith}
+use Rattle.std.proofs.Common.{◌≡◌, ℕ, zero, suc, ◌≤◌, Bool, true, false, ◌&&◌, if◌then◌else◌, nat_le, List, Option, Some, None, is_some, IsSome, refl, sym, ◌∙◌, ap}
 use Rattle.std.proofs.lemmas.Bool.{leb-true, le-leb}
 use Rattle.clu_tree.specs.declared.program.Program.{Program}
 use Rattle.machine_rules.specs.declared.frame.Frame.{Frame}
 use Rattle.machine_rules.specs.declared.act.Act.{Act}
 use Rattle.machine_rules.specs.declared.act.Act.TheVariants as act
-use Rattle.machine_rules.specs.Row.{Next, bare_world, row}
+use Rattle.machine_rules.specs.Row.{bare_world, row}
 use Rattle.world_types.specs.declared.effects.Effects.{Effects}
-use Rattle.world_rules.specs.Plain.{Lawful, Rules, and_then, behind, join, nothing}
-use Rattle.world_rules.specs.Node.{NodeState, acted, first_of_program, picked_at, picks, ready_frames, rules_of, step_of, steps, turn}
+use Rattle.world_rules.specs.Plain.{Lawful, and_then, behind, nothing}
+use Rattle.world_rules.specs.Node.{NodeState, acted, picked_at, picks, ready_frames, rules_of, step_of, steps, turn}
 use Rattle.world_rules.proofs.Following.{and_left, and_right}
-use Rattle.world_rules.proofs.Plainly.{Then, and_then_some}
+use Rattle.world_rules.proofs.Plainly.{and_then_some}
 
 -- a test that was passed
 pub record Passed {A : Type 0} (b : Bool) (o : Option A) : Type 0 where

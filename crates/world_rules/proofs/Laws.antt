@@ -1,10 +1,10 @@
 -- The laws of what a list says, over every program.
-use Rattle.std.proofs.Common.{◌≡◌, ℕ, ◌≤◌, List, [], ◌∷◌, ◌++◌, reverse, None, refl, sym, subst}
+use Rattle.std.proofs.Common.{List, reverse, subst}
 use Rattle.clu_tree.specs.declared.program.Program.{Program}
 use Rattle.world_types.specs.declared.event.Told.{Told}
 use Rattle.world_types.specs.declared.effects.Entry.{Entry}
-use Rattle.world_rules.specs.Said.{rounds, cut, erase, erased, items, last_stamp}
-use Rattle.world_rules.specs.Legal.{InTime, first_failing, tolds}
+use Rattle.world_rules.specs.Said.{rounds, cut, erase, last_stamp}
+use Rattle.world_rules.specs.Legal.{InTime, tolds}
 use Rattle.world_rules.specs.Node.{IsLegal, first_of_program, rules_of}
 use Rattle.world_rules.specs.Laws.{CutLaws, ErasingLaws, past_of}
 use Rattle.world_rules.proofs.Cuts.{cut_mono, rounds_ordered}

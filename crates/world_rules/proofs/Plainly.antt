@@ -1,9 +1,9 @@
 -- The list without the debugger is legal again.
-use Rattle.std.proofs.Common.{◌≡◌, ℕ, zero, suc, ◌+◌, ◌-◌, ◌≤◌, Bool, true, false, not, ◌&&◌, ◌||◌, List, [], ◌∷◌, ◌++◌, reverse, if◌then◌else◌, ◌==◌, nat_le, nat_lt, length, Option, Some, None, is_none, is_some, IsSome, slice_get, refl, sym, ◌∙◌, ap, arith, append_assoc}
-use Rattle.std.proofs.lemmas.Bool.{leb-true, le-leb, eqb-true, eq-eqb}
+use Rattle.std.proofs.Common.{◌≡◌, ℕ, zero, suc, ◌-◌, ◌≤◌, Bool, true, false, not, ◌&&◌, List, [], ◌∷◌, ◌++◌, reverse, if◌then◌else◌, ◌==◌, nat_le, Option, Some, None, is_some, IsSome, slice_get, refl, sym, ◌∙◌, ap, arith, append_assoc}
+use Rattle.std.proofs.lemmas.Bool.{le-leb, eqb-true, eq-eqb}
 use Rattle.std.proofs.lemmas.List.{reverse-append}
 use Rattle.world_types.specs.declared.event.Event.{Event}
-use Rattle.world_types.specs.declared.event.Event.TheVariants.{Turn, Packet, Tick, Stop, Halt, Resume, Ask, Answer, Set, Clear, HaltAll, ResumeAll, Say, Quit}
+use Rattle.world_types.specs.declared.event.Event.TheVariants.{Turn, Packet, Tick, Resume, Ask, Set, Clear}
 use Rattle.world_types.specs.declared.event.Told.{Told}
 use Rattle.world_types.specs.declared.effects.Sent.{Sent}
 use Rattle.world_types.specs.declared.effects.Entry.{Entry}
@@ -11,11 +11,11 @@ use Rattle.world_types.specs.declared.effects.Effects.{Effects}
 use Rattle.world_types.specs.declared.event.PlainEvent.{PlainEvent}
 use Rattle.world_types.specs.declared.event.PlainEvent.TheVariants as plainly
 use Rattle.world_rules.specs.Plain.{Rules, Lawful, World, and_then, node_at, packet_of, to_node, moved, step, behind, plain, join, nothing}
-use Rattle.world_rules.specs.Said.{node_of, halted, last_by, last_of, last_stamp, Round, is_open, rounds, cut, read_by, goal, goal_by, marked, marked_by, has_quit, quits, held, resumed, erased, erase, items, items_by, plain_events, plainly_at}
-use Rattle.world_rules.specs.Legal.{Test, first_of, test, tests, all_tests, first_failing, is_node, world_or, reached, passed, blocked, same_place, unmarked, allowed, most, most_at, settled, settled_by, showing, shown_by, enter, told, tolds, bare, effects_of, Follows, LegalPast, Legal, IsPlainEvent, ArePlain, ReadsBy, InTime, ErasesLegally}
-use Rattle.world_rules.proofs.Erasing.{if-same, halted-plain, rounds-plain, cut-plain, erased-plain, erased-more, cut-later, events-append, plain_reverse, plain_erased, reverse-twice}
+use Rattle.world_rules.specs.Said.{node_of, halted, last_by, last_of, last_stamp, Round, rounds, cut, read_by, goal, goal_by, marked, marked_by, has_quit, quits, held, resumed, erased, items, items_by, plain_events, plainly_at}
+use Rattle.world_rules.specs.Legal.{test, tests, all_tests, first_failing, is_node, reached, passed, blocked, unmarked, most, settled, shown_by, enter, told, tolds, bare, Follows, LegalPast, Legal, IsPlainEvent, ArePlain, InTime, ErasesLegally}
+use Rattle.world_rules.proofs.Erasing.{if-same, halted-plain, rounds-plain, cut-plain, erased-plain, erased-more, cut-later, plain_reverse, plain_erased, reverse-twice}
 use Rattle.world_rules.proofs.Cuts.{cut_mono, rounds_ordered}
-use Rattle.world_rules.proofs.Following.{by_test, AllPass, passes, none_fails, and_left, and_right, le_true, meets_all, in_time, in_time_more, Same, same_past, is_reached, reached_more, Showed, showed, tolds-reverse}
+use Rattle.world_rules.proofs.Following.{by_test, AllPass, none_fails, and_left, and_right, le_true, meets_all, in_time, in_time_more, reached_more, showed, tolds-reverse}
 
 -- ---- what a list without the debugger says
 

@@ -1,23 +1,23 @@
 -- The worlds that legal lists leave: times, sent packets, and that an entry that meets its conditions is possible.
-use Rattle.std.proofs.Common.{◌≡◌, ℕ, zero, suc, ◌+◌, ◌-◌, ◌≤◌, ◌<◌, Bool, true, false, not, ◌&&◌, ◌||◌, ◌⊎◌, inl, inr, List, [], ◌∷◌, ◌++◌, reverse, if◌then◌else◌, ◌==◌, nat_le, nat_lt, length, Option, Some, None, is_none, is_some, IsSome, slice_get, slice_set, refl, sym, ◌∙◌, ap, arith, append_assoc}
+use Rattle.std.proofs.Common.{◌≡◌, ℕ, zero, suc, ◌-◌, ◌≤◌, Bool, true, false, ◌&&◌, ◌⊎◌, inl, inr, List, [], ◌∷◌, ◌++◌, ◌==◌, length, Option, Some, None, is_some, IsSome, slice_get, slice_set, refl, sym, ◌∙◌, ap, arith, append_assoc}
 use Rattle.std.proofs.lemmas.List.{append-nil}
-use Rattle.std.proofs.lemmas.Bool.{leb-true, le-leb, eqb-true, eq-eqb, cases_lt}
+use Rattle.std.proofs.lemmas.Bool.{eqb-true, eq-eqb}
 use Rattle.world_types.specs.declared.event.Event.{Event}
-use Rattle.world_types.specs.declared.event.Event.TheVariants.{Turn, Packet, Tick, Stop, Halt, Resume, Ask, Answer, Set, Clear, HaltAll, ResumeAll, Say, Quit}
+use Rattle.world_types.specs.declared.event.Event.TheVariants.{Turn, Packet, Tick, Resume}
 use Rattle.world_types.specs.declared.event.Told.{Told}
 use Rattle.world_types.specs.declared.effects.Sent.{Sent}
 use Rattle.world_types.specs.declared.effects.Entry.{Entry}
 use Rattle.world_types.specs.declared.effects.Effects.{Effects}
 use Rattle.world_types.specs.declared.event.PlainEvent.{PlainEvent}
 use Rattle.world_types.specs.declared.event.PlainEvent.TheVariants as plainly
-use Rattle.world_rules.specs.Plain.{Rules, Lawful, World, Fresh, and_then, node_at, packet_of, to_node, moved, step, behind, plain, join, nothing}
-use Rattle.world_rules.specs.Said.{node_of, halted, last_by, last_of, last_stamp, Round, is_open, rounds, cut, read_by, held, held_by, resumed, erased, items, items_by, plain_events, plainly_at}
+use Rattle.world_rules.specs.Plain.{Rules, Lawful, World, Fresh, and_then, node_at, packet_of, to_node, moved, step, behind, plain}
+use Rattle.world_rules.specs.Said.{node_of, halted, last_of, last_stamp, rounds, cut, held, resumed, items, items_by, plain_events}
 use Rattle.world_rules.specs.Legal.{InTime, tests, first_failing, test, is_node, due_at, ready_at, reached, passed, allowed, unmarked, most, showing, shown_by, enter, told, tolds, Follows, LegalPast}
 use Rattle.world_rules.specs.Clock.{ClosedBy}
 use Rattle.world_rules.proofs.Cuts.{cut_mono, rounds_ordered}
 use Rattle.world_rules.proofs.Erasing.{cut-later}
-use Rattle.world_rules.proofs.Following.{by_test, AllPass, and_left, and_right, le_true, meets_all, in_time, in_time_more, showed, reached_more}
-use Rattle.world_rules.proofs.Plainly.{Then, and_then_some, last_below, timely, stays, last_stays, last_goes, no_items, meets}
+use Rattle.world_rules.proofs.Following.{by_test, AllPass, meets_all, in_time, in_time_more, showed, reached_more}
+use Rattle.world_rules.proofs.Plainly.{and_then_some, last_below, stays, last_stays, last_goes, no_items}
 use Rattle.world_rules.proofs.Clocks.{closed_more}
 
 -- ---- places of a list

@@ -1,5 +1,5 @@
 -- What a clock keeps of the rounds that it was told, and how far a node's clock may lag behind the list.
-use Rattle.std.specs.Prelude.{◌≡◌, ℕ, ◌+◌, ◌-◌, ◌≤◌, min, Bool, true, false, ◌⊎◌, if◌then◌else◌, List, [], ◌∷◌, Option, Some, None}
+use Rattle.std.specs.Prelude.{◌≡◌, ℕ, ◌+◌, ◌-◌, ◌≤◌, min, Bool, true, false, ◌⊎◌, List, [], ◌∷◌, Option, Some, None}
 use Rattle.world_types.specs.declared.event.Told.{Told}
 use Rattle.world_rules.specs.Said.{Round, halted, rounds}
 

@@ -1,14 +1,14 @@
 -- Which entry may come next, what it gives, legal lists of entries, and their laws.
-use Rattle.std.specs.Prelude.{◌≡◌, ℕ, zero, suc, ◌-◌, ◌≤◌, Bool, true, false, not, ◌&&◌, ◌||◌, if◌then◌else◌, nat_le, nat_lt, ◌==◌, List, [], ◌∷◌, ◌++◌, reverse, length, Option, Some, None, is_none, is_some, codes, decimal}
+use Rattle.std.specs.Prelude.{◌≡◌, ℕ, zero, suc, ◌-◌, ◌≤◌, Bool, true, false, not, ◌&&◌, ◌||◌, if◌then◌else◌, nat_le, ◌==◌, List, [], ◌∷◌, ◌++◌, reverse, length, Option, Some, None, is_none, is_some, codes, decimal}
 use Rattle.world_types.specs.declared.event.Event.{Event}
-use Rattle.world_types.specs.declared.event.Event.TheVariants.{Turn, Packet, Tick, Stop, Halt, Resume, Ask, Answer, Set, Clear, HaltAll, ResumeAll, Say, Quit}
+use Rattle.world_types.specs.declared.event.Event.TheVariants.{Turn, Packet, Tick, Stop, Halt, Resume, Ask, Answer, Set, Clear, HaltAll}
 use Rattle.world_types.specs.declared.event.Question.{Question}
 use Rattle.world_types.specs.declared.event.Told.{Told}
 use Rattle.world_types.specs.declared.effects.Sent.{Sent}
 use Rattle.world_types.specs.declared.effects.Entry.{Entry}
 use Rattle.world_types.specs.declared.effects.Effects.{Effects}
-use Rattle.world_rules.specs.Plain.{Rules, Lawful, World, node_at, packet_of, and_then, plain, join, nothing}
-use Rattle.world_rules.specs.Said.{node_of, halted, all_halted, last_of, last_stamp, Round, is_open, rounds, cut, read_by, goal, below, turned, marked, asked, none_asked, has_quit, erase, erased, items, plain_events}
+use Rattle.world_rules.specs.Plain.{Rules, World, node_at, packet_of, and_then, plain, join, nothing}
+use Rattle.world_rules.specs.Said.{node_of, halted, all_halted, last_of, last_stamp, is_open, rounds, cut, read_by, goal, below, turned, marked, asked, none_asked, has_quit, erase, erased, items, plain_events}
 
 -- ---- the world that a list leaves
 

@@ -7,7 +7,6 @@ use Rattle.clu_tree.specs.declared.program.NodePart.{NodePart}
 use Rattle.clu_tree.specs.declared.program.NodePart.TheVariants.{Export, Start}
 use Rattle.clu_tree.specs.declared.program.NodeDecl.{NodeDecl}
 use Rattle.clu_tree.specs.declared.program.Program.{Program}
-use Rattle.clu_tree.specs.declared.tree.Expr.{Expr}
 use Rattle.clu_tree.specs.declared.tree.Stmt.{Stmt, out-Stmt}
 use Rattle.clu_tree.specs.declared.tree.Stmt.TheOpen as sf
 use Rattle.clu_tree.specs.declared.tree.Arm.{Arm}
@@ -20,7 +19,6 @@ use Rattle.machine_rules.specs.declared.item.Item.TheVariants as item
 use Rattle.machine_rules.specs.declared.act.Act.{Act}
 use Rattle.machine_rules.specs.declared.act.Act.TheVariants as act
 use Rattle.machine_rules.specs.Row.{bare_world, row, start}
-use Rattle.world_types.specs.declared.effects.Sent.{Sent}
 use Rattle.world_types.specs.declared.effects.Effects.{Effects}
 use Rattle.world_types.specs.declared.effects.Entry.{Entry}
 use Rattle.world_types.specs.declared.effects.Mark.TheVariants as mark

@@ -1,5 +1,5 @@
 -- The machine without debugger: worlds of nodes, over any rules of one node.
-use Rattle.std.specs.Prelude.{◌≡◌, ℕ, zero, suc, ◌-◌, ◌≤◌, Bool, true, false, ◌&&◌, if◌then◌else◌, ◌==◌, List, [], ◌∷◌, ◌++◌, Option, Some, None, is_some, IsSome, slice_get, slice_set}
+use Rattle.std.specs.Prelude.{◌≡◌, ℕ, zero, suc, ◌-◌, ◌≤◌, Bool, true, false, if◌then◌else◌, ◌==◌, List, [], ◌∷◌, ◌++◌, Option, Some, None, IsSome, slice_get, slice_set}
 use Rattle.world_types.specs.declared.event.PlainEvent.{PlainEvent}
 use Rattle.world_types.specs.declared.event.PlainEvent.TheVariants.{Turn, Deliver, Tick}
 use Rattle.world_types.specs.declared.effects.Effects.{Effects}

@@ -1,9 +1,7 @@
-use Rattle.std.proofs.Common.{◌≡◌, [], Some, sym, ap, ◌∙◌, rules}
-use Rattle.std.specs.Option.{option_map}
+use Rattle.std.proofs.Common.{◌≡◌, Some, sym, ap, ◌∙◌}
 use Rattle.std.specs.Prelude.{slice_get}
 use Rattle.clu_tree.specs.declared.program.NodePart.TheVariants.{Start}
-use Rattle.world_rules.specs.Node.{routine_named}
-use Rattle.node_core.proofs.Starts.{Named, begun, exported, is_named, named, not_over, starts_none, starts_with, takes_none}
+use Rattle.node_core.proofs.Starts.{begun, is_named, named, not_over, starts_none, starts_with, takes_none}
 use Rattle.node_core.proofs.start.started.Goals as goal
 
 pub unreachable-requires-in_default-place_of : goal.unreachable-requires-in_default-place_of

@@ -1,4 +1,4 @@
-use Rattle.std.proofs.Common.{◌≡◌, ◌≢◌, [], Bool, true, false, refl, sym, ◌∙◌, rules, arith}
+use Rattle.std.proofs.Common.{◌≡◌, ◌≢◌, [], true, false, refl, sym, ◌∙◌, arith}
 use Rattle.machine_rules.specs.Row.{bare_world}
 use Rattle.node_core.proofs.Acts.{is_over, row_fits, fits_noted, still_on, took_more}
 use Rattle.node_core.proofs.turn.run.Goals as goal

@@ -2,7 +2,7 @@ use Rattle.std.proofs.Common.{◌≡◌, ◌<◌, ◌≤◌, ℕ, List, refl, sy
 use Rattle.clu_tree.specs.Typed.{IsAccepted}
 use Rattle.clu_tree.specs.declared.program.Program.{Program}
 use Rattle.outside_edge.proofs.Writing.{Wrote-nothing}
-use Rattle.pilgrim_top.specs.Replay.{LoadsSome, both, most_bytes, not_accepted, one, ran, ran_out, refused, refused_text, too_long, unscripted}
+use Rattle.pilgrim_top.specs.Replay.{both, most_bytes, not_accepted, one, ran, ran_out, refused, refused_text, too_long, unscripted}
 use Rattle.pilgrim_top.specs.Script.{RunsScript}
 use Rattle.pilgrim_top.proofs.Replays.{unnoticed}
 use Rattle.pilgrim_top.proofs.replay.replay.Goals as goal

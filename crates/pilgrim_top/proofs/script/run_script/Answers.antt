@@ -1,9 +1,7 @@
-use Rattle.std.proofs.Common.{◌≡◌, ◌≢◌, ◌≤◌, ◌<◌, [], List, ℕ, Option, false, refl, sym, ap, ◌∙◌, inl, inr, arith, rules, subst}
-use Rattle.outside_edge.specs.Sink.{SinkTold, Wrote}
+use Rattle.std.proofs.Common.{◌≢◌, ◌≤◌, ◌<◌, ℕ, refl, ◌∙◌, arith}
 use Rattle.outside_edge.proofs.Writing.{Wrote-nothing}
-use Rattle.world_rules.specs.Transcript.{transcript}
-use Rattle.pilgrim_top.specs.Script.{IsRefused, beyond, outside}
-use Rattle.pilgrim_top.proofs.Scripts.{Line, applied_none, ends_all, ends_at, ends_early, ends_refused, goes_on, is_empty, not_empty, refused_line}
+use Rattle.pilgrim_top.specs.Script.{beyond, outside}
+use Rattle.pilgrim_top.proofs.Scripts.{Line, applied_none, ends_at, ends_early, ends_refused, goes_on, not_empty, refused_line}
 use Rattle.pilgrim_top.proofs.script.run_script.Goals as goal
 
 few_of : (count : ℕ) → count ≤ 1000000 → count ≢ 1000000 → count < 1000000

@@ -1,4 +1,4 @@
-use Rattle.std.proofs.Common.{◌≡◌, ◌++◌, take, drop}
+use Rattle.std.proofs.Common.{◌≡◌, ◌++◌, drop}
 use Rattle.world_rules.specs.Transcript.{printed}
 use Rattle.pilgrim_top.proofs.written.printed.Given as goal
 

@@ -1,4 +1,4 @@
-use Rattle.world_rules.proofs.Clocks.{lacks_reads, knows_more, closed_more}
+use Rattle.world_rules.proofs.Clocks.{lacks_reads}
 use Rattle.world_rules.proofs.law.lagging_clock_law.Goals as goal
 
 pub returns : goal.returns

@@ -1,4 +1,3 @@
-use Rattle.std.proofs.Common.{◌≡◌, ap}
 use Rattle.debug_world.proofs.Adding.{refusal_is}
 use Rattle.debug_world.proofs.world.DebugWorld.refusal.Goals as goal
 

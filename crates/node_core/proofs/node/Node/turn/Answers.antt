@@ -1,4 +1,4 @@
-use Rattle.std.proofs.Common.{inl, inr, refl, arith, sym, ◌∙◌}
+use Rattle.std.proofs.Common.{inl, inr, refl, arith, sym}
 use Rattle.node_core.proofs.Turns.{answered, refused, refused_same}
 use Rattle.node_core.proofs.node.Node.turn.Goals as goal
 use Rattle.node_core.proofs.node.Node.turn.Goals.{then-most-eq0-via-then-most-eq0, then-most-eq0-via-else-most-eq0+then-t-self}
