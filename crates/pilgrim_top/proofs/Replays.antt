@@ -1,18 +1,18 @@
 -- What follows of how a replay ends.
 use Rattle.std.proofs.Common.{◌≡◌, ◌≢◌, ◌⊎◌, ◌<◌, inl, inr, ℕ, List, [], ◌++◌, Option, Result, Ok, Err, refl, sym, ◌∙◌, subst, arith, append-nil, string_bytes}
+use Rattle.clu_tree.specs.Typed.{IsAccepted}
 use Rattle.clu_tree.specs.declared.program.Program.{Program}
 use Rattle.world_types.specs.declared.effects.Entry.{Entry}
 use Rattle.world_rules.specs.Laws.{ErasingLaws}
 use Rattle.world_rules.specs.Node.{IsLegal}
 use Rattle.world_rules.specs.Transcript.{transcript}
-use Rattle.outside_edge.specs.Shelf.{ShelfTold}
+use Rattle.outside_edge.specs.Shelf.{ShelfTold, Loads}
 use Rattle.outside_edge.specs.Sink.{SinkTold, CutShort}
-use Rattle.outside_edge.proofs.Loading.{Loads-failed}
 use Rattle.outside_edge.proofs.Writing.{CutShort-exceeds}
 use Rattle.pilgrim_top.specs.Ends.{CountsFaults, CountsPuts, Says, status_of}
 use Rattle.pilgrim_top.specs.Replay.{Replays, Unnoticed, unread, refused, unscripted, ran, ran_out}
 use Rattle.pilgrim_top.specs.Script.{RunsScript, Finishes}
-use Rattle.pilgrim_top.specs.Top.{Does, FaultCause, IsLastText, ShowsUsage, first_load, no_room, no_text, program_refused, script_refused, second_load, usage_shown, usage_text}
+use Rattle.pilgrim_top.specs.Top.{Does, EndText, LoadCause, LoadFailed, RoomCause, RoomLacks, ShowsUsage, first, no_text, of_program, of_script, second, usage_text}
 use Rattle.pilgrim_top.specs.declared.usage.Usage.{Usage}
 use Rattle.pilgrim_top.specs.declared.usage.Usage.TheVariants.{Check, Replay, Erase, Load, Run}
 use Rattle.pilgrim_top.specs.declared.stop.Stop.{Stop}
@@ -79,55 +79,73 @@ faulted u shelf shelf' sink sink' journal a a' b b' end status does counts e fou
 
 -- ---- why
 
-room_of : (sink sink' : Option SinkTold) (journal : List Entry) (text : List ℕ) → IsLastText text → CutShort sink sink' (transcript journal ++ text) → (shelf shelf' : Option ShelfTold) → FaultCause shelf shelf' sink sink' journal
-room_of sink sink' journal text last cut shelf shelf' = no_room text last (CutShort-exceeds sink sink' (transcript journal ++ text) cut)
-
 alone : (journal : List Entry) (text : List ℕ) → journal ≡ [] → transcript journal ++ text ≡ text
 alone journal text e = rw e refl
 
-finish_text : (program : Program) (journal : List Entry) (rest : List ℕ) (count status : ℕ) (text : List ℕ) → Finishes program journal rest count status text → IsLastText text
-finish_text program journal rest count status text (inl h) = rw (h.2) no_text
-finish_text program journal rest count status text (inr h) = rw (h.2) (script_refused count)
-
-script_cause : (program : Program) (lines : List ℕ) (sink sink' : Option SinkTold) (journal : List Entry) (shelf shelf' : Option ShelfTold) → RunsScript program lines sink sink' journal (Err Cut) → FaultCause shelf shelf' sink sink' journal
-script_cause program lines sink sink' journal shelf shelf' h = by_which h.wrote
-  where
-    by_which : CutShort sink sink' (transcript journal) ⊎ ((status : ℕ) × (text : List ℕ) × Finishes program journal h.rest h.count status text × CutShort sink sink' (transcript journal ++ text)) → FaultCause shelf shelf' sink sink' journal
-    by_which (inl cut) = room_of sink sink' journal [] no_text (rw (append-nil (transcript journal)) cut) shelf shelf'
-    by_which (inr cut) = room_of sink sink' journal cut.1 (finish_text program journal h.rest h.count cut.0 cut.1 cut.2) cut.3 shelf shelf'
-
-cut_cause : (file script : List ℕ) (shelf shelf' : Option ShelfTold) (sink sink' : Option SinkTold) (journal : List Entry) → Replays file script shelf shelf' sink sink' journal (Err Cut) → FaultCause shelf shelf' sink sink' journal
-cut_cause file script shelf shelf' sink sink' journal (unread l j w e) = cc
-cut_cause file script shelf shelf' sink sink' journal (refused bytes text l r j says) = room_of sink sink' journal text (program_refused bytes text r) (rw (alone journal text j) says) shelf shelf'
-cut_cause file script shelf shelf' sink sink' journal (unscripted bytes p mid l a m j w e) = cc
-cut_cause file script shelf shelf' sink sink' journal (ran bytes p mid lines l a m run un) = script_cause p lines sink sink' journal shelf shelf' run
-cut_cause file script shelf shelf' sink sink' journal (ran_out l j w e) = cc
-
-unread_cause : (file script : List ℕ) (shelf shelf' : Option ShelfTold) (sink sink' : Option SinkTold) (journal : List Entry) → Replays file script shelf shelf' sink sink' journal (Err Unread) → FaultCause shelf shelf' sink sink' journal
-unread_cause file script shelf shelf' sink sink' journal (unread l j w e) = first_load file (Loads-failed file shelf shelf' l)
+unread_cause : (file script : List ℕ) (shelf shelf' : Option ShelfTold) (sink sink' : Option SinkTold) (journal : List Entry) → Replays file script shelf shelf' sink sink' journal (Err Unread) → LoadFailed file script shelf shelf'
+unread_cause file script shelf shelf' sink sink' journal (unread l j w e) = first l
 unread_cause file script shelf shelf' sink sink' journal (refused bytes text l r j says) = absurd says
-unread_cause file script shelf shelf' sink sink' journal (unscripted bytes p mid l a m j w e) = second_load mid file script bytes l (Loads-failed script mid shelf' m)
+unread_cause file script shelf shelf' sink sink' journal (unscripted bytes p mid l a m j w e) = second bytes p mid l a m
 unread_cause file script shelf shelf' sink sink' journal (ran bytes p mid lines l a m run un) = absurd run
 unread_cause file script shelf shelf' sink sink' journal (ran_out l j w e) = cc
 
-pub usage_cause : (shelf shelf' : Option ShelfTold) (sink sink' : Option SinkTold) (journal : List Entry) (end : Result ℕ Stop) (status : ℕ) → Says usage_text 1 sink sink' end → journal ≡ [] → status ≡ status_of end → status ≡ 4 → FaultCause shelf shelf' sink sink' journal
-usage_cause shelf shelf' sink sink' journal (Ok s) status h j e four = absurd (omega (arith, h.0, e, four))
-usage_cause shelf shelf' sink sink' journal (Err Unread) status h j e four = absurd h
-usage_cause shelf shelf' sink sink' journal (Err Cut) status h j e four = room_of sink sink' journal usage_text usage_shown (rw (alone journal usage_text j) h) shelf shelf'
-usage_cause shelf shelf' sink sink' journal (Err Memory) status h j e four = absurd (omega (arith, e, four))
+-- only a replay loads
+unread_does : (u : Usage) (shelf shelf' : Option ShelfTold) (sink sink' : Option SinkTold) (journal : List Entry) → Does u shelf shelf' sink sink' journal (Err Unread) → LoadCause u shelf shelf'
+unread_does (Replay file script) shelf shelf' sink sink' journal h = unread_cause (string_bytes file) (string_bytes script) shelf shelf' sink sink' journal h
+unread_does (Check file) shelf shelf' sink sink' journal h = h.says
+unread_does (Erase file script) shelf shelf' sink sink' journal h = h.says
+unread_does (Load calls) shelf shelf' sink sink' journal h = h.says
+unread_does (Run words) shelf shelf' sink sink' journal h = h.says
 
-replay_cause : (file script : List ℕ) (shelf shelf' : Option ShelfTold) (sink sink' : Option SinkTold) (journal : List Entry) (end : Result ℕ Stop) (status : ℕ) → Replays file script shelf shelf' sink sink' journal end → status ≡ status_of end → status ≡ 4 → FaultCause shelf shelf' sink sink' journal
-replay_cause file script shelf shelf' sink sink' journal (Ok s) status h e four = absurd (replay_status file script shelf shelf' sink sink' journal s h (sym e ∙ four))
-replay_cause file script shelf shelf' sink sink' journal (Err Unread) status h e four = unread_cause file script shelf shelf' sink sink' journal h
-replay_cause file script shelf shelf' sink sink' journal (Err Cut) status h e four = cut_cause file script shelf shelf' sink sink' journal h
-replay_cause file script shelf shelf' sink sink' journal (Err Memory) status h e four = absurd (omega (arith, e, four))
+-- where the shelf's count rose, a load failed
+pub load_cause : (u : Usage) (shelf shelf' : Option ShelfTold) (sink sink' : Option SinkTold) (journal : List Entry) (a a' b b' : ℕ) (end : Result ℕ Stop) → Does u shelf shelf' sink sink' journal end → CountsFaults a a' b b' end → a < a' → LoadCause u shelf shelf'
+load_cause u shelf shelf' sink sink' journal a a' b b' (Ok s) does h l = absurd (omega (arith, h.0, l))
+load_cause u shelf shelf' sink sink' journal a a' b b' (Err Unread) does h l = unread_does u shelf shelf' sink sink' journal does
+load_cause u shelf shelf' sink sink' journal a a' b b' (Err Cut) does h l = absurd (omega (arith, h.0, l))
+load_cause u shelf shelf' sink sink' journal a a' b b' (Err Memory) does h l = absurd (omega (arith, h.0, l))
 
-pub cause_of : (u : Usage) (shelf shelf' : Option ShelfTold) (sink sink' : Option SinkTold) (journal : List Entry) (end : Result ℕ Stop) (status : ℕ) → Does u shelf shelf' sink sink' journal end → status ≡ status_of end → status ≡ 4 → FaultCause shelf shelf' sink sink' journal
-cause_of (Replay file script) shelf shelf' sink sink' journal end status h e four = replay_cause (string_bytes file) (string_bytes script) shelf shelf' sink sink' journal end status h e four
-cause_of (Check file) shelf shelf' sink sink' journal end status h e four = usage_cause shelf shelf' sink sink' journal end status h.says h.noted e four
-cause_of (Erase file script) shelf shelf' sink sink' journal end status h e four = usage_cause shelf shelf' sink sink' journal end status h.says h.noted e four
-cause_of (Load calls) shelf shelf' sink sink' journal end status h e four = usage_cause shelf shelf' sink sink' journal end status h.says h.noted e four
-cause_of (Run words) shelf shelf' sink sink' journal end status h e four = usage_cause shelf shelf' sink sink' journal end status h.says h.noted e four
+-- the room lacked for a text that is written behind no entries
+alone_lacks : (sink sink' : Option SinkTold) (journal : List Entry) (text : List ℕ) → journal ≡ [] → CutShort sink sink' text → RoomLacks sink sink' journal text
+alone_lacks sink sink' journal text j cut = CutShort-exceeds sink sink' (transcript journal ++ text) (rw (alone journal text j) cut)
+
+-- a script whose writing was cut short
+script_cause : (file script bytes lines : List ℕ) (program : Program) (shelf mid shelf' : Option ShelfTold) (sink sink' : Option SinkTold) (journal : List Entry) →
+    Loads file shelf mid (Ok bytes) → IsAccepted bytes program → Loads script mid shelf' (Ok lines) → RunsScript program lines sink sink' journal (Err Cut) →
+    (text : List ℕ) × EndText file script shelf shelf' journal text × RoomLacks sink sink' journal text
+script_cause file script bytes lines program shelf mid shelf' sink sink' journal l a m h = by_which h.wrote
+  where
+    by_which : CutShort sink sink' (transcript journal) ⊎ ((status : ℕ) × (text : List ℕ) × Finishes program journal h.rest h.count status text × CutShort sink sink' (transcript journal ++ text)) →
+        (text : List ℕ) × EndText file script shelf shelf' journal text × RoomLacks sink sink' journal text
+    by_which (inl cut) = ([], no_text, CutShort-exceeds sink sink' (transcript journal ++ []) (rw (append-nil (transcript journal)) cut))
+    by_which (inr cut) = (cut.1, of_script bytes lines h.rest program mid h.count cut.0 cut.1 l a m h.applied cut.2, CutShort-exceeds sink sink' (transcript journal ++ cut.1) cut.3)
+
+cut_cause : (file script : List ℕ) (shelf shelf' : Option ShelfTold) (sink sink' : Option SinkTold) (journal : List Entry) → Replays file script shelf shelf' sink sink' journal (Err Cut) → (text : List ℕ) × EndText file script shelf shelf' journal text × RoomLacks sink sink' journal text
+cut_cause file script shelf shelf' sink sink' journal (unread l j w e) = cc
+cut_cause file script shelf shelf' sink sink' journal (refused bytes text l r j says) = (text, of_program bytes text l r, alone_lacks sink sink' journal text j says)
+cut_cause file script shelf shelf' sink sink' journal (unscripted bytes p mid l a m j w e) = cc
+cut_cause file script shelf shelf' sink sink' journal (ran bytes p mid lines l a m run un) = script_cause file script bytes lines p shelf mid shelf' sink sink' journal l a m run
+cut_cause file script shelf shelf' sink sink' journal (ran_out l j w e) = cc
+
+cut_does : (u : Usage) (shelf shelf' : Option ShelfTold) (sink sink' : Option SinkTold) (journal : List Entry) → Does u shelf shelf' sink sink' journal (Err Cut) → RoomCause u shelf shelf' sink sink' journal
+cut_does (Replay file script) shelf shelf' sink sink' journal h = cut_cause (string_bytes file) (string_bytes script) shelf shelf' sink sink' journal h
+cut_does (Check file) shelf shelf' sink sink' journal h = alone_lacks sink sink' journal usage_text h.noted h.says
+cut_does (Erase file script) shelf shelf' sink sink' journal h = alone_lacks sink sink' journal usage_text h.noted h.says
+cut_does (Load calls) shelf shelf' sink sink' journal h = alone_lacks sink sink' journal usage_text h.noted h.says
+cut_does (Run words) shelf shelf' sink sink' journal h = alone_lacks sink sink' journal usage_text h.noted h.says
+
+-- where the sink's count rose, its room lacked
+pub room_cause : (u : Usage) (shelf shelf' : Option ShelfTold) (sink sink' : Option SinkTold) (journal : List Entry) (a a' b b' : ℕ) (end : Result ℕ Stop) → Does u shelf shelf' sink sink' journal end → CountsFaults a a' b b' end → b < b' → RoomCause u shelf shelf' sink sink' journal
+room_cause u shelf shelf' sink sink' journal a a' b b' (Ok s) does h l = absurd (omega (arith, h.1, l))
+room_cause u shelf shelf' sink sink' journal a a' b b' (Err Unread) does h l = absurd (omega (arith, h.1, l))
+room_cause u shelf shelf' sink sink' journal a a' b b' (Err Cut) does h l = cut_does u shelf shelf' sink sink' journal does
+room_cause u shelf shelf' sink sink' journal a a' b b' (Err Memory) does h l = absurd (omega (arith, h.1, l))
+
+-- the same where the usage text was to be written and nothing else
+pub usage_cause : (sink sink' : Option SinkTold) (journal : List Entry) (b b' : ℕ) (end : Result ℕ Stop) → Says usage_text 1 sink sink' end → CountsPuts b b' end → journal ≡ [] → b < b' → RoomLacks sink sink' journal usage_text
+usage_cause sink sink' journal b b' (Ok s) says h j l = absurd (omega (arith, h, l))
+usage_cause sink sink' journal b b' (Err Unread) says h j l = absurd h
+usage_cause sink sink' journal b b' (Err Cut) says h j l = alone_lacks sink sink' journal usage_text j says
+usage_cause sink sink' journal b b' (Err Memory) says h j l = absurd (omega (arith, h, l))
 
 -- ---- usages that can't be run yet
 

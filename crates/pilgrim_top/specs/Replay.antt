@@ -7,8 +7,7 @@ use Rattle.world_rules.specs.Legal.{ErasesLegally, SameEffects}
 use Rattle.world_rules.specs.Node.{first_of_program, rules_of}
 use Rattle.outside_edge.specs.Shelf.{ShelfTold, Loads}
 use Rattle.outside_edge.specs.Sink.{SinkTold, Wrote}
-use Rattle.outside_edge.specs.declared.shelf.LoadFault.{LoadFault}
-use Rattle.outside_edge.specs.declared.shelf.LoadFault.TheVariants.{Failed}
+use Rattle.outside_edge.specs.declared.shelf.LoadFault.TheVariants as load
 use Rattle.pilgrim_top.specs.Ends.{Says}
 use Rattle.pilgrim_top.specs.Script.{RunsScript}
 use Rattle.pilgrim_top.specs.declared.stop.Stop.{Stop}
@@ -33,21 +32,25 @@ pub record Unnoticed (program : Program) (journal : List Entry) : Type 0 where
   pub same : SameEffects (rules_of program) (first_of_program program) journal
   pub erased : ErasesLegally (rules_of program) (first_of_program program) journal
 
--- the file and then the script were loaded, each at most once, and nothing else
+-- what was loaded where memory ran out before the script was run
 pub data LoadsSome (file script : List ℕ) (shelf shelf' : Option ShelfTold) : Type 0 where
-  nothing : shelf' ≡ shelf → LoadsSome file script shelf shelf'
-  one : (first : Result (List ℕ) LoadFault) → Loads file shelf shelf' first → LoadsSome file script shelf shelf'
-  both : (mid : Option ShelfTold) (bytes : List ℕ) (second : Result (List ℕ) LoadFault) → Loads file shelf mid (Ok bytes) → Loads script mid shelf' second → LoadsSome file script shelf shelf'
+  -- it ran out in the load of the file
+  file_lacks : Loads file shelf shelf' (Err load.Memory) → LoadsSome file script shelf shelf'
+  -- behind it, before the bytes were accepted or refused, or while the refusal was made
+  file_read : (bytes : List ℕ) → Loads file shelf shelf' (Ok bytes) → LoadsSome file script shelf shelf'
+  -- in the load of the script of an accepted program
+  script_lacks : (bytes : List ℕ) (program : Program) (mid : Option ShelfTold) → Loads file shelf mid (Ok bytes) → IsAccepted bytes program →
+      Loads script mid shelf' (Err load.Memory) → LoadsSome file script shelf shelf'
 
 -- The ways in which a replay of a file under a script ends, by what the shelf and the sink tell before and after it.
 pub data Replays (file script : List ℕ) (shelf shelf' : Option ShelfTold) (sink sink' : Option SinkTold) (journal : List Entry) (end : Result ℕ Stop) : Type 0 where
   -- the file isn't read
-  unread : Loads file shelf shelf' (Err Failed) → journal ≡ [] → Wrote sink sink' [] → end ≡ Err Unread → Replays file script shelf shelf' sink sink' journal end
+  unread : Loads file shelf shelf' (Err load.Failed) → journal ≡ [] → Wrote sink sink' [] → end ≡ Err Unread → Replays file script shelf shelf' sink sink' journal end
   -- its bytes are no accepted program
   refused : (bytes text : List ℕ) → Loads file shelf shelf' (Ok bytes) → IsRefusedProgram bytes text → journal ≡ [] → Says text 2 sink sink' end → Replays file script shelf shelf' sink sink' journal end
   -- they are, and the script isn't read
   unscripted : (bytes : List ℕ) (program : Program) (mid : Option ShelfTold) → Loads file shelf mid (Ok bytes) → IsAccepted bytes program →
-      Loads script mid shelf' (Err Failed) → journal ≡ [] → Wrote sink sink' [] → end ≡ Err Unread → Replays file script shelf shelf' sink sink' journal end
+      Loads script mid shelf' (Err load.Failed) → journal ≡ [] → Wrote sink sink' [] → end ≡ Err Unread → Replays file script shelf shelf' sink sink' journal end
   -- both are read, and the script is run; the debugger can't be noticed
   ran : (bytes : List ℕ) (program : Program) (mid : Option ShelfTold) (lines : List ℕ) → Loads file shelf mid (Ok bytes) → IsAccepted bytes program →
       Loads script mid shelf' (Ok lines) → RunsScript program lines sink sink' journal end → Unnoticed program journal → Replays file script shelf shelf' sink sink' journal end

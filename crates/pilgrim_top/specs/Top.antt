@@ -1,13 +1,16 @@
 -- How a run of a command line may end.
-use Rattle.std.specs.Prelude.{◌≡◌, ℕ, List, [], ◌∷◌, ◌++◌, length, codes, Option, Result, Ok, Err, string_bytes}
+use Rattle.std.specs.Prelude.{◌≡◌, ◌⊎◌, ℕ, List, [], ◌∷◌, ◌++◌, length, codes, Option, Result, Ok, Err, string_bytes}
+use Rattle.clu_tree.specs.Typed.{IsAccepted}
+use Rattle.clu_tree.specs.declared.program.Program.{Program}
 use Rattle.world_types.specs.declared.effects.Entry.{Entry}
 use Rattle.world_rules.specs.Transcript.{transcript}
 use Rattle.outside_edge.specs.Told.{Tells}
-use Rattle.outside_edge.specs.Shelf.{ShelfTold, Loads, LoadFails}
+use Rattle.outside_edge.specs.Shelf.{ShelfTold, Loads}
 use Rattle.outside_edge.specs.Sink.{SinkTold, Exceeds, Wrote}
+use Rattle.outside_edge.specs.declared.shelf.LoadFault.TheVariants.{Failed}
 use Rattle.pilgrim_top.specs.Ends.{Says}
 use Rattle.pilgrim_top.specs.Replay.{IsRefusedProgram, Replays}
-use Rattle.pilgrim_top.specs.Script.{refusal_text}
+use Rattle.pilgrim_top.specs.Script.{Applied, Finishes}
 use Rattle.pilgrim_top.specs.Usage.{IsUsage}
 use Rattle.pilgrim_top.specs.declared.usage.Usage.{Usage}
 use Rattle.pilgrim_top.specs.declared.usage.Usage.TheVariants.{Check, Replay, Erase, Load, Run}
@@ -40,16 +43,42 @@ pub data WordsDo (words : List (List ℕ)) (shelf shelf' : Option ShelfTold) (si
 
 -- ---- why a run stopped at a fault
 
--- a text that a run ends with
-pub data IsLastText : List ℕ → Type 0 where
-  no_text : IsLastText []
-  usage_shown : IsLastText usage_text
-  program_refused : (bytes text : List ℕ) → IsRefusedProgram bytes text → IsLastText text
-  script_refused : (count : ℕ) → IsLastText (refusal_text count)
+-- a load of a replay failed: of the file, or of the script of an accepted program
+pub data LoadFailed (file script : List ℕ) (shelf shelf' : Option ShelfTold) : Type 0 where
+  first : Loads file shelf shelf' (Err Failed) → LoadFailed file script shelf shelf'
+  second : (bytes : List ℕ) (program : Program) (mid : Option ShelfTold) → Loads file shelf mid (Ok bytes) → IsAccepted bytes program →
+      Loads script mid shelf' (Err Failed) → LoadFailed file script shelf shelf'
 
--- Where shelf and sink tell: a load is one that fails, or the room at the start was less than the bytes that stand for
--- the journal and for a status without the fault.
-pub data FaultCause (shelf shelf' : Option ShelfTold) (sink sink' : Option SinkTold) (journal : List Entry) : Type 0 where
-  first_load : (name : List ℕ) → Tells shelf shelf' (λ before after. LoadFails before name) → FaultCause shelf shelf' sink sink' journal
-  second_load : (mid : Option ShelfTold) (file name bytes : List ℕ) → Loads file shelf mid (Ok bytes) → Tells mid shelf' (λ before after. LoadFails before name) → FaultCause shelf shelf' sink sink' journal
-  no_room : (text : List ℕ) → IsLastText text → Tells sink sink' (λ before after. Exceeds before.room (length (transcript journal ++ text))) → FaultCause shelf shelf' sink sink' journal
+-- what a usage loads, and why that failed
+abbrev pub LoadCause : Usage → Option ShelfTold → Option ShelfTold → Type 0
+LoadCause (Replay file script) shelf shelf' = LoadFailed (string_bytes file) (string_bytes script) shelf shelf'
+LoadCause (Check file) shelf shelf' = ⊥
+LoadCause (Erase file script) shelf shelf' = ⊥
+LoadCause (Load calls) shelf shelf' = ⊥
+LoadCause (Run words) shelf shelf' = ⊥
+
+-- the room at the start was less than the bytes that stand for the journal and for this text
+abbrev pub RoomLacks : Option SinkTold → Option SinkTold → List Entry → List ℕ → Type 0
+RoomLacks sink sink' journal text = Tells sink sink' (λ before after. Exceeds before.room (length (transcript journal ++ text)))
+
+-- the text of the status that a replay with these entries would have had, or no text, where the entries alone are too long
+pub data EndText (file script : List ℕ) (shelf shelf' : Option ShelfTold) (journal : List Entry) : List ℕ → Type 0 where
+  no_text : EndText file script shelf shelf' journal []
+  of_program : (bytes text : List ℕ) → Loads file shelf shelf' (Ok bytes) → IsRefusedProgram bytes text → EndText file script shelf shelf' journal text
+  of_script : (bytes lines rest : List ℕ) (program : Program) (mid : Option ShelfTold) (count status : ℕ) (text : List ℕ) →
+      Loads file shelf mid (Ok bytes) → IsAccepted bytes program → Loads script mid shelf' (Ok lines) → Applied program lines journal rest count →
+      Finishes program journal rest count status text → EndText file script shelf shelf' journal text
+
+-- what a usage writes, and that the room was less than that
+abbrev pub RoomCause : Usage → Option ShelfTold → Option ShelfTold → Option SinkTold → Option SinkTold → List Entry → Type 0
+RoomCause (Replay file script) shelf shelf' sink sink' journal = (text : List ℕ) × EndText (string_bytes file) (string_bytes script) shelf shelf' journal text × RoomLacks sink sink' journal text
+RoomCause (Check file) shelf shelf' sink sink' journal = RoomLacks sink sink' journal usage_text
+RoomCause (Erase file script) shelf shelf' sink sink' journal = RoomLacks sink sink' journal usage_text
+RoomCause (Load calls) shelf shelf' sink sink' journal = RoomLacks sink sink' journal usage_text
+RoomCause (Run words) shelf shelf' sink sink' journal = RoomLacks sink sink' journal usage_text
+
+-- the same for words, which ask for a usage or are outside the grammar
+abbrev pub WordsRoomCause : List (List ℕ) → Option ShelfTold → Option ShelfTold → Option SinkTold → Option SinkTold → List Entry → Type 0
+WordsRoomCause words shelf shelf' sink sink' journal =
+    ((usage : Usage) × IsUsage usage words × RoomCause usage shelf shelf' sink sink' journal)
+    ⊎ (((usage : Usage) → IsUsage usage words → ⊥) × RoomLacks sink sink' journal usage_text)

@@ -2,9 +2,10 @@
 
 ghost use Rattle.std.specs.Prelude.{◌≡◌, ◌≢◌, ◌⊎◌, ◌<◌, [], ℕ, Result};
 ghost use Rattle.pilgrim_top.specs.Ends.{CountsFaults, CountsPuts, Says, status_of};
-ghost use Rattle.pilgrim_top.specs.Top.{Does, FaultCause, WordsDo, usage_text};
-ghost use Rattle.pilgrim_top.specs.Usage.{texts_of};
+ghost use Rattle.pilgrim_top.specs.Top.{Does, LoadCause, RoomCause, WordsDo, WordsRoomCause, usage_text};
+ghost use Rattle.pilgrim_top.specs.Usage.{IsUsage, texts_of};
 ghost use Rattle.pilgrim_top.specs.declared.stop.Stop.{Stop};
+ghost use Rattle.pilgrim_top.specs.declared.usage.Usage.{Usage};
 
 use crate::replay::replay;
 use crate::stop::{Stop, say};
@@ -79,8 +80,10 @@ pub fn top_still<S: Shelf, K: Sink>(
     // A fault is answered only where a count rose in this call, and where one rose the answer is this.
     ensures fault { result.status ≡ 4 → (S.faults shelf.old < S.faults shelf.new) ⊎ (K.faults sink.old < K.faults sink.new) }
     ensures no_fault { result.status ≢ 4 → (S.faults shelf.new ≡ S.faults shelf.old) × (K.faults sink.new ≡ K.faults sink.old) }
-    // Where they tell, a load failed or the room was less than the bytes for the journal and a status.
-    ensures cause { result.status ≡ 4 → FaultCause (S.told shelf.old) (S.told shelf.new) (K.told sink.old) (K.told sink.new) result.journal.items }
+    // Where they tell: if the shelf's count rose, one of the usage's loads failed, and if the sink's did, the room was less
+    // than the bytes for the journal and for the status without the fault.
+    ensures load_cause { S.faults shelf.old < S.faults shelf.new → LoadCause usage.now (S.told shelf.old) (S.told shelf.new) }
+    ensures room_cause { K.faults sink.old < K.faults sink.new → RoomCause usage.now (S.told shelf.old) (S.told shelf.new) (K.told sink.old) (K.told sink.new) result.journal.items }
     // The journal is legal, its events are the script's lines, and the debugger can't be noticed.
     ensures does { (end : Result ℕ Stop) × (result.status ≡ status_of end) × Does usage.now (S.told shelf.old) (S.told shelf.new) (K.told sink.old) (K.told sink.new) result.journal.items end }
 {
@@ -109,7 +112,8 @@ pub fn top_words<S: Shelf, K: Sink>(
 ) -> Still
     ensures fault { result.status ≡ 4 → (S.faults shelf.old < S.faults shelf.new) ⊎ (K.faults sink.old < K.faults sink.new) }
     ensures no_fault { result.status ≢ 4 → (S.faults shelf.new ≡ S.faults shelf.old) × (K.faults sink.new ≡ K.faults sink.old) }
-    ensures cause { result.status ≡ 4 → FaultCause (S.told shelf.old) (S.told shelf.new) (K.told sink.old) (K.told sink.new) result.journal.items }
+    ensures load_cause { S.faults shelf.old < S.faults shelf.new → (usage : Usage) × IsUsage usage (texts_of words.now) × LoadCause usage (S.told shelf.old) (S.told shelf.new) }
+    ensures room_cause { K.faults sink.old < K.faults sink.new → WordsRoomCause (texts_of words.now) (S.told shelf.old) (S.told shelf.new) (K.told sink.old) (K.told sink.new) result.journal.items }
     ensures does { (end : Result ℕ Stop) × (result.status ≡ status_of end) × WordsDo (texts_of words.now) (S.told shelf.old) (S.told shelf.new) (K.told sink.old) (K.told sink.new) result.journal.items end }
 {
     let journal = Vec::new(alloc);

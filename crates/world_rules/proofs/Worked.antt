@@ -1,0 +1,40 @@
+-- What a small program writes, computed.
+use Rattle.std.proofs.Common.{◌≡◌, ℕ, pos, List, [], ◌∷◌, ◌++◌, codes, Option, Some, None, refl, ap, arith}
+use denote.Hole.Carrier
+use Rattle.std.specs.Fmt.{decimal}
+use Rattle.std.proofs.lemmas.Fmt.{decimal-digits_of}
+use Rattle.clu_tree.specs.declared.value.Value.TheVariants as value
+use Rattle.clu_tree.specs.declared.tree.Expr.{out-Expr}
+use Rattle.clu_tree.specs.declared.tree.Expr.TheVariants as e
+use Rattle.clu_tree.specs.declared.tree.Stmt.{out-Stmt}
+use Rattle.clu_tree.specs.declared.tree.Stmt.TheVariants as s
+use Rattle.clu_tree.specs.declared.program.NodePart.TheVariants as part
+use Rattle.clu_tree.specs.declared.program.Program.{Program}
+use Rattle.world_types.specs.declared.event.Event.TheVariants as event
+use Rattle.world_types.specs.declared.event.PlainEvent.TheVariants as plain_event
+use Rattle.world_types.specs.declared.effects.Effects.{Effects}
+use Rattle.world_rules.specs.Plain.{World, plain}
+use Rattle.world_rules.specs.Node.{NodeState, first_of_program, rules_of}
+use Rattle.world_rules.specs.Transcript.{transcript}
+
+-- what is written for one turn of four steps with these effects
+abbrev written_for : Option (World NodeState × Effects) → List ℕ
+written_for None = []
+written_for (Some after) = transcript (record { stamp = 0; event = event.Turn 1 4 0; effects = after.1 } ∷ [])
+
+-- a routine that prints `hi`, started at the node 1
+abbrev greeting : Program
+greeting = record {
+  equates = [];
+  node_vars = [];
+  routines = record { name = codes "hello"; params = []; result = None; signals = []; body = s.PutLine (e.Literal (value.Str (codes "hi")) 2) 2 ∷ []; line = 1 } ∷ [];
+  clusters = [];
+  nodes = record { number = pos 1; parts = part.Start (codes "hello") [] 4 ∷ []; line = 4 } ∷ [];
+}
+
+one : decimal 1 ≡ codes "1"
+one = decimal-digits_of 1 (omega arith) (omega arith)
+
+hello : written_for (plain (rules_of greeting) (first_of_program greeting) (plain_event.Turn 1 4 0 ∷ [])) ≡ codes "1: hi" ++ 10 ∷ []
+unfolding out-Expr out-Stmt Carrier.out
+hello = ap (λ digits. ((digits ++ codes ": " ++ codes "hi") ++ 10 ∷ []) ++ []) one
