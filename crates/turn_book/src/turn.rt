@@ -1,0 +1,81 @@
+// The steps of a turn.
+ghost use Rattle.std.specs.Prelude.{◌≡◌, ◌∷◌, ◌++◌, [], IfOk, IfErr};
+ghost use mathlib.Core.List.{IsPrefix};
+
+use crate::book::Book;
+use crate::kept::Kept;
+use crate::pass::{Busy, Holder, Pass, Waiting};
+use crate::step::{Draw, Enter, Leave, Look};
+
+impl<J: Kept> Book<J> {
+    // Draws the next ticket.
+    pub(crate) fn draw(&self, pass: Pass<J>) -> Waiting<J>
+        requires { pass.book ≡ self.now }
+        ensures { result ≡ pass }
+    {
+        let Pass { mut seat } = pass;
+        let ticket = self.table.shared.fetch_add::<Draw<J>>(&mut seat, 1, 1);
+        Waiting { seat, ticket }
+    }
+
+    // Looks whether the ticket is served. If it is, the pass has seen the whole history.
+    pub(crate) fn look(&self, waiting: Waiting<J>) -> Result<Holder<J>, Waiting<J>>
+        requires { waiting.book ≡ self.now }
+        ensures pass { IfOk result (λ h. h.pass ≡ record waiting { seen = J.history h.state }) }
+        ensures grown { IfOk result (λ h. IsPrefix waiting.seen (J.history h.state)) }
+        ensures label { IfOk result (λ h. J.label h.state ≡ waiting.label) }
+        ensures not_yet { IfErr result (λ w. w ≡ waiting) }
+    {
+        let Waiting { mut seat, ticket } = waiting;
+        let served = self.table.shared.load::<Look<J>>(&mut seat, 2);
+        if served == ticket {
+            Ok(Holder { seat })
+        } else {
+            Err(Waiting { seat, ticket })
+        }
+    }
+
+    // Takes the value out of the table.
+    pub(crate) fn lift(&self, holder: Holder<J>) -> (J, Busy<J>)
+        requires { holder.pass.book ≡ self.now }
+        ensures { (result.0 ≡ holder.state) × (result.1 ≡ holder.pass) }
+    {
+        let Holder { mut seat } = holder;
+        let state = self.table.shared.exchange(&mut seat, 0, None).unwrap();
+        (state, Busy { seat })
+    }
+
+    // Puts the value into the table.
+    pub(crate) fn put(&self, state: J, busy: Busy<J>) -> Holder<J>
+        requires { busy.book ≡ self.now }
+        ensures { result ≡ record { pass = busy; state = state } }
+    {
+        let Busy { mut seat } = busy;
+        drop(self.table.shared.exchange(&mut seat, 0, Some(state)));
+        Holder { seat }
+    }
+
+    // Enters the one entry that the value has more than was seen.
+    pub(crate) fn enter(&self, holder: &mut Holder<J>)
+        requires book { holder.old.pass.book ≡ self.now }
+        requires entry { (e : J.Entry) × (J.history holder.old.state ≡ holder.old.pass.seen ++ e ∷ []) }
+        ensures { (e : J.Entry) → J.history holder.old.state ≡ holder.old.pass.seen ++ e ∷ []
+            → holder.new ≡ record { pass = record holder.old.pass { seen = J.history holder.old.state; mine = holder.old.pass.mine ++ e ∷ [] }; state = holder.old.state } }
+    {
+        self.table
+            .shared
+            .fetch_add::<Enter<J>>(&mut holder.seat, 0, 1);
+    }
+
+    // Lets the next ticket be served.
+    pub(crate) fn leave(&self, holder: Holder<J>) -> Pass<J>
+        requires book { holder.pass.book ≡ self.now }
+        requires seen { J.history holder.state ≡ holder.pass.seen }
+        requires label { J.label holder.state ≡ holder.pass.label }
+        ensures { result ≡ holder.pass }
+    {
+        let Holder { mut seat } = holder;
+        self.table.shared.fetch_add::<Leave<J>>(&mut seat, 2, 1);
+        Pass { seat }
+    }
+}
