@@ -29,7 +29,7 @@ module _ {J E L : Type 0} (history_of : J → List E) (label_of : J → L) where
       whole = λ n is. cc is;
     };
     apart = λ i j u w other at at'. absurd (other ((only_one v u i at).0 ∙ sym (only_one v w j at').0));
-    root = (0, v, refl, (λ is. cc is), refl);
+    root = (0, v, refl, (λ is. cc), refl);
     owned = λ k has. absurd (omega (arith, has.1));
     kept = All-nil (EndedOk [] 0);
     once = λ i j d lt in_range. absurd (omega arith);

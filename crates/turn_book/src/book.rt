@@ -2,11 +2,10 @@
 ghost use Rattle.std.specs.Prelude.{◌≡◌, ◌+◌, ◌-◌, ◌≤◌, ◌∷◌, ◌++◌, [], Some, IfOk};
 ghost use mathlib.Core.List.{IsPrefix};
 ghost use Rattle.turn_book.specs.History.{IsMadeOf, longer};
-ghost use Rattle.turn_book.specs.PassView.{first_pass};
+ghost use Rattle.turn_book.specs.PassView.{first_pass, with_entry};
 
 use crate::kept::Kept;
 use crate::pass::{Busy, Pass};
-use crate::step::{Cut, Glue};
 use crate::view::{Board, Opening};
 use atomic_table::Table;
 use std::alloc::Global;
@@ -75,10 +74,19 @@ impl<J: Kept> Book<J> {
         requires book { pass.old.book ≡ self.now }
         requires first { pass.old.number ≡ 0 }
         requires room { 1 ≤ pass.old.room }
-        ensures first { pass.new ≡ record pass.old { room = pass.old.room - 1; splits = pass.old.splits + 1 } }
-        ensures new { result ≡ record pass.old { number = pass.old.splits + 1; mine = []; ended = []; room = 0; splits = 0 } }
+        ensures first { pass.new ≡ record pass.old {
+          room = pass.old.room - 1;
+          splits = pass.old.splits + 1;
+        } }
+        ensures new { result ≡ record pass.old {
+          number = pass.old.splits + 1;
+          mine = [];
+          ended = [];
+          room = 0;
+          splits = 0;
+        } }
     {
-        let seat = self.table.shared.split_seat::<Cut>(&mut pass.seat);
+        let seat = self.cut(&mut pass.seat);
         Pass { seat }
     }
 
@@ -116,7 +124,8 @@ impl<J: Kept> Book<J> {
         requires book { busy.book ≡ self.now }
         requires history { (e : J.Entry) × (J.history state ≡ busy.seen ++ e ∷ []) }
         requires label { J.label state ≡ busy.label }
-        ensures { (e : J.Entry) → J.history state ≡ busy.seen ++ e ∷ [] → result ≡ record busy { seen = J.history state; mine = busy.mine ++ e ∷ [] } }
+        ensures { (e : J.Entry) → J.history state ≡ busy.seen ++ e ∷ []
+            → result ≡ with_entry busy e }
     {
         let mut holder = self.put(state, busy);
         self.enter(&mut holder);
@@ -128,11 +137,15 @@ impl<J: Kept> Book<J> {
         requires kept { kept.book ≡ self.now }
         requires ended { ended.book ≡ self.now }
         requires first { kept.number ≡ 0 }
-        ensures { result ≡ record kept { seen = longer kept.seen ended.seen; room = kept.room + 1; ended = kept.ended ++ (ended.number, ended.mine) ∷ [] } }
+        ensures { result ≡ record kept {
+          seen = longer kept.seen ended.seen;
+          room = kept.room + 1;
+          ended = kept.ended ++ (ended.number, ended.mine) ∷ [];
+        } }
     {
         let Pass { mut seat } = kept;
         let Pass { seat: other } = ended;
-        self.table.shared.join_seat::<Glue>(&mut seat, other);
+        self.glue(&mut seat, other);
         Pass { seat }
     }
 

@@ -1,11 +1,15 @@
-// The steps of a turn.
-ghost use Rattle.std.specs.Prelude.{◌≡◌, ◌∷◌, ◌++◌, [], IfOk, IfErr};
+// The steps on the table.
+ghost use Rattle.std.specs.Prelude.{◌≡◌, ◌≤◌, ◌∷◌, ◌++◌, [], IfOk, IfErr};
 ghost use mathlib.Core.List.{IsPrefix};
+ghost use Rattle.turn_book.specs.PassView.{with_entry};
+ghost use Rattle.turn_book.specs.Seated.{IsAtRest};
+ghost use Rattle.turn_book.specs.Steps.{rest_of, part_of, joined};
 
 use crate::book::Book;
 use crate::kept::Kept;
 use crate::pass::{Busy, Holder, Pass, Waiting};
-use crate::step::{Draw, Enter, Leave, Look};
+use crate::step::{Cut, Draw, Enter, Glue, Leave, Look};
+use crate::view::Place;
 
 impl<J: Kept> Book<J> {
     // Draws the next ticket.
@@ -60,11 +64,10 @@ impl<J: Kept> Book<J> {
         requires book { holder.old.pass.book ≡ self.now }
         requires entry { (e : J.Entry) × (J.history holder.old.state ≡ holder.old.pass.seen ++ e ∷ []) }
         ensures { (e : J.Entry) → J.history holder.old.state ≡ holder.old.pass.seen ++ e ∷ []
-            → holder.new ≡ record { pass = record holder.old.pass { seen = J.history holder.old.state; mine = holder.old.pass.mine ++ e ∷ [] }; state = holder.old.state } }
+            → holder.new ≡ record holder.old { pass = with_entry holder.old.pass e } }
     {
-        self.table
-            .shared
-            .fetch_add::<Enter<J>>(&mut holder.seat, 0, 1);
+        let shared = &self.table.shared;
+        shared.fetch_add::<Enter<J>>(&mut holder.seat, 0, 1);
     }
 
     // Lets the next ticket be served.
@@ -77,5 +80,29 @@ impl<J: Kept> Book<J> {
         let Holder { mut seat } = holder;
         self.table.shared.fetch_add::<Leave<J>>(&mut seat, 2, 1);
         Pass { seat }
+    }
+
+    // Splits a seat from that of the first pass.
+    pub(crate) fn cut(&self, seat: &mut Place<J>) -> Place<J>
+        requires table { seat.old.table_id ≡ self.now }
+        requires rest { IsAtRest seat.old.me }
+        requires first { seat.old.me.0.number ≡ 0 }
+        requires room { 1 ≤ seat.old.me.0.room }
+        ensures table { (seat.new.table_id ≡ self.now) × (result.table_id ≡ self.now) }
+        ensures first { seat.new.me ≡ (rest_of seat.old.me.0, []) }
+        ensures new { result.me ≡ (part_of seat.old.me.0, []) }
+    {
+        self.table.shared.split_seat::<Cut>(seat)
+    }
+
+    // Joins a seat to that of the first pass.
+    pub(crate) fn glue(&self, seat: &mut Place<J>, ended: Place<J>)
+        requires table { (seat.old.table_id ≡ self.now) × (ended.table_id ≡ self.now) }
+        requires rest { IsAtRest seat.old.me × IsAtRest ended.me }
+        requires first { seat.old.me.0.number ≡ 0 }
+        ensures table { seat.new.table_id ≡ self.now }
+        ensures both { seat.new.me ≡ (joined seat.old.me.0 ended.me.0, []) }
+    {
+        self.table.shared.join_seat::<Glue>(seat, ended);
     }
 }

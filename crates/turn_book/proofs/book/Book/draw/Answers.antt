@@ -3,4 +3,4 @@ use Rattle.turn_book.proofs.Turns.{draws}
 use Rattle.turn_book.proofs.book.Book.draw.Goals as goal
 
 pub fetch_add-ticket-requires : goal.fetch_add-ticket-requires
-fetch_add-ticket-requires g c = (search rules, search rules, draws g.J.Kept.history g.J.Kept.label _ _ _ _ c.pass.inside.seat.me c.pass.invariant.0)
+fetch_add-ticket-requires g c = (search rules, search rules, draws g.J.Kept.history g.J.Kept.label _ _ _ _ _ (search rules))
