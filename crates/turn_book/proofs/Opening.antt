@@ -26,7 +26,7 @@ module _ {J E L : Type 0} (history_of : J → List E) (label_of : J → L) where
     each = λ j u at. let one = only_one v u j at in subst (λ (w : View E L). ViewOk [] 0 [] 0 0 maybe.none (label_of x) seats j w) one.1 record {
       stands = λ is. maybe.some-ne-none j (sym is);
       knows = λ _. record { named = refl; seated = refl; seen = ([], refl); mine = refl; first = λ _. (refl, refl); later = λ other. absurd (other refl) };
-      whole = λ n is. cc is;
+      whole = λ n is. cc;
     };
     apart = λ i j u w other at at'. absurd (other ((only_one v u i at).0 ∙ sym (only_one v w j at').0));
     root = (0, v, refl, (λ is. cc), refl);

@@ -1,20 +1,28 @@
--- What contracts see of a pass and of a turn.
+-- What contracts see of a pass, and of the turn that it takes.
 use Rattle.std.specs.Prelude.{ℕ, ◌-◌, List, [], ◌∷◌, ◌++◌}
 use Rattle.atomic_table.specs.Seated.{TableId}
 
--- A pass of a book. It has a number of its own, the beginning of the history that it has seen, and the entries that it made, in order. The first pass, whose number is 0, knows besides of the passes that were joined to it, each by its number and the entries that it made, how many more may be split from it, and how many were. The last two are those that the book was begun with.
+-- a pass of a book
 pub record PassView (E L : Type 0) : Type 0 where
+  -- which book it is of
   pub book : TableId
+  -- a number of its own, which is 0 for the first pass
   pub number : ℕ
+  -- the beginning of the history that it has seen
   pub seen : List E
+  -- the entries that it made, in order
   pub mine : List E
+  -- the passes that were joined to it, each as its number and the entries that it made
   pub ended : List (ℕ × List E)
+  -- how many passes may still be split from it, and how many were
   pub room : ℕ
   pub splits : ℕ
+  -- how many passes the book may have at one time
   pub seats : ℕ
+  -- the label of the book's value
   pub label : L
 
--- the first pass of a book of this label, which may have this many passes at one time
+-- the first pass of a book whose value has this label, and which may have this many passes at one time
 abbrev pub first_pass : {E L : Type 0} → TableId → L → ℕ → PassView E L
 first_pass book label seats = record { book = book; number = 0; seen = []; mine = []; ended = []; room = seats - 1; splits = 0; seats = seats; label = label }
 

@@ -51,7 +51,7 @@ module _ {E L : Type 0} where
   abbrev pub Named : List (View E L) → ℕ → Type 0
   Named views k = (j : ℕ) × (v : View E L) × (get_elem? views j ≡ maybe.some v) × (v.stage ≢ Spent) × (v.number ≡ k)
 
-  -- What a view that isn't spent knows is true of the log. The view of the number 0 knows the splits and the ended passes, and no other view knows of any.
+  -- what a view that isn't spent knows is true, and the first pass alone knows of splits and ended passes
   pub record Knows (log : List (ℕ × E)) (splits : ℕ) (ended : List (ℕ × List E)) (label : L) (seats : ℕ) (v : View E L) : Type 0 where
     pub named : v.label ≡ Some label
     pub seated : v.seats ≡ seats
@@ -77,24 +77,34 @@ module _ {J E L : Type 0} (history_of : J → List E) (label_of : J → L) where
   SlotOk log label maybe.none homes = (x : J) × (homes ≡ maybe.some (Some x) ∷ []) × (history_of x ≡ entries log) × (label_of x ≡ label)
   SlotOk log label (maybe.some j) homes = homes ≡ maybe.none ∷ []
 
-  -- The rule. `served` and `drawn` count tickets without an end, and each entry of the log has the number of a view or of an ended pass.
+  -- the rule
   pub record BookRule (label : L) (seats : ℕ) (s : State (Option J) (View E L)) : Type 0 where
+    -- each entry of the history, with the number of the pass that made it
     pub log : List (ℕ × E)
+    -- the tickets that were served and drawn, counted without an end
     pub served : ℕ
     pub drawn : ℕ
+    -- the passes that were split from the first, and those that were joined to it
     pub splits : ℕ
     pub ended : List (ℕ × List E)
+    -- the seat on turn, if there is one
     pub turn : maybe.Option ℕ
+    -- the words are these counts
     pub words : s.words ≡ length log % 2 ^ 64 ∷ drawn % 2 ^ 64 ∷ served % 2 ^ 64 ∷ []
+    -- as many tickets are out as views hold one, and the views stand for all seats
     pub few : seats < 2 ^ 32
     pub waiting : served + sum_by (λ (v : View E L). tickets v.stage) s.views ≡ drawn
     pub shares : sum_by (λ (v : View E L). share v.stage v.room) s.views ≡ seats
+    -- where the value is
     pub slot : SlotOk log label turn s.homes
     pub holder : (j : ℕ) → turn ≡ maybe.some j → (v : View E L) × (get_elem? s.views j ≡ maybe.some v) × (v.stage ≡ OnTurn served)
+    -- each view by itself, and each two
     pub each : (j : ℕ) (v : View E L) → get_elem? s.views j ≡ maybe.some v → ViewOk log splits ended served drawn turn label seats j v
     pub apart : (i j : ℕ) (v w : View E L) → i ≢ j → get_elem? s.views i ≡ maybe.some v → get_elem? s.views j ≡ maybe.some w → Apart v w
+    -- there is a first pass, and each entry is of a view's number or of an ended pass's
     pub root : Named s.views 0
     pub owned : (k : ℕ) → Contains (numbers log) k → Named s.views k ⊎ Contains (numbers ended) k
+    -- the ended passes, whose numbers differ from one another and from those of the views
     pub kept : All (EndedOk log splits) ended
     pub once : AllPairs (λ j k. j ≢ k) (numbers ended)
     pub gone : (k : ℕ) → Contains (numbers ended) k → Named s.views k → ⊥

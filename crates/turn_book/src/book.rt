@@ -6,7 +6,7 @@ ghost use Rattle.turn_book.specs.PassView.{first_pass, with_entry};
 
 use crate::kept::Kept;
 use crate::pass::{Busy, Pass};
-use crate::view::{Board, Opening};
+use crate::view::{Board, Opening, VALUE};
 use atomic_table::Table;
 use std::alloc::Global;
 use std::marker::Model;
@@ -36,7 +36,8 @@ impl<J: Kept> Model for Book<J> {
 
     ghost view = { λ b. b.table.shared.table_id };
 
-    ghost invariant = { λ b. (b.table.shared.table_id.words ≡ 3) × (b.table.shared.table_id.slots ≡ 1) };
+    ghost invariant = { λ b.
+        (b.table.shared.table_id.words ≡ 3) × (b.table.shared.table_id.slots ≡ 1) };
 }
 
 // The one value that the table has.
@@ -51,8 +52,8 @@ fn only<J: Drop>(alloc: Global, first: J) -> Result<Vec<Option<J>>, Memory>
 }
 
 impl<J: Kept> Book<J> {
-    /// A book of the value, whose history is empty, and its first pass. At most `seats` passes are there at one time.
-    /// After `Memory` the value has been dropped.
+    /// A book of the value, whose history is empty, and its first pass. There are at most `seats`
+    /// passes at one time. After `Memory` the value has been dropped.
     pub fn begin(alloc: Global, first: J, seats: u32) -> Result<(Book<J>, Pass<J>), Memory>
         requires seats { 1 ≤ seats }
         requires empty { J.history first ≡ [] }
@@ -90,7 +91,8 @@ impl<J: Kept> Book<J> {
         Pass { seat }
     }
 
-    /// Waits for the turn, and takes the value out. Its history begins with all that the pass had seen.
+    /// Waits for the turn, and hands the value out. Its history begins with all that the pass had
+    /// seen.
     pub fn take<R: Wait>(&self, rt: &R, pass: Pass<J>) -> (J, Busy<J>)
         requires { pass.book ≡ self.now }
         ensures grown { IsPrefix pass.seen (J.history result.0) }
@@ -108,7 +110,7 @@ impl<J: Kept> Book<J> {
         unreachable!()
     }
 
-    /// Gives the value back with the history that it was taken with, and ends the turn.
+    /// Takes the value back with the history that it was taken with, and ends the turn.
     pub fn give(&self, state: J, busy: Busy<J>) -> Pass<J>
         requires book { busy.book ≡ self.now }
         requires history { J.history state ≡ busy.seen }
@@ -119,7 +121,7 @@ impl<J: Kept> Book<J> {
         self.leave(holder)
     }
 
-    /// Gives the value back with one entry more, which the pass has then made, and ends the turn.
+    /// Takes the value back with one entry more, which the pass has then made, and ends the turn.
     pub fn enter_and_give(&self, state: J, busy: Busy<J>) -> Pass<J>
         requires book { busy.book ≡ self.now }
         requires history { (e : J.Entry) × (J.history state ≡ busy.seen ++ e ∷ []) }
@@ -132,7 +134,8 @@ impl<J: Kept> Book<J> {
         self.leave(holder)
     }
 
-    /// The first pass, which takes over the seat of another, what that one has seen and the entries that it made.
+    /// The first pass, once another was joined to it. It has room for one more pass, has seen what
+    /// either had, and keeps the number and the entries of the ended one.
     pub fn join(&self, kept: Pass<J>, ended: Pass<J>) -> Pass<J>
         requires kept { kept.book ≡ self.now }
         requires ended { ended.book ≡ self.now }
@@ -159,7 +162,7 @@ impl<J: Kept> Book<J> {
         let Book { table } = self;
         let Pass { seat } = pass;
         let mut closed = table.close_with(seat);
-        let state = closed.take(0).unwrap();
+        let state = closed.take(VALUE).unwrap();
         closed.free();
         state
     }

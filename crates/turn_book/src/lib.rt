@@ -4,8 +4,7 @@
 mod book;
 mod kept;
 mod pass;
-mod step;
-mod turn;
+mod steps;
 mod view;
 
 pub use book::{Book, Memory};

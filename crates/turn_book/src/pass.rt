@@ -8,8 +8,8 @@ use std::marker::Model;
 
 /// A right to take turns at a book. Contracts see it as a `PassView`.
 ///
-/// Hand every pass back, by `Book::join` or `Book::close`. One that is dropped keeps its place among the seats, so that
-/// no other pass ever has the room that `Book::close` asks for.
+/// End every pass by `Book::join` or `Book::close`. One that is dropped keeps its place among the
+/// seats, so no other pass ever has the room that `Book::close` asks for.
 #[derive(Drop)]
 pub struct Pass<J: Kept> {
     pub(crate) seat: Place<J>,
@@ -61,13 +61,17 @@ impl<J: Kept> Model for Holder<J> {
 
     ghost use Rattle.turn_book.specs.Seated.{shown, value_of, in_hand, HasTurn};
 
-    ghost view = { λ h. record { pass = shown h.seat.table_id h.seat.me.0 h.labelled; state = value_of (in_hand h.seat.me.1) h.full } };
+    ghost view = { λ h. record {
+      pass = shown h.seat.table_id h.seat.me.0 h.labelled;
+      state = value_of (in_hand h.seat.me.1) h.full;
+    } };
 
     ghost invariant = { λ h. HasTurn h.seat.me (in_hand h.seat.me.1) };
 }
 
-/// The turn at a book, while its value is out. It is seen as the pass that took it, whose `seen` is then the history that
-/// was taken. It can't be dropped: end it by `Book::give` or `Book::enter_and_give`.
+/// The turn at a book, whose value is out. Contracts see it as the pass that took it, whose `seen`
+/// is the history that was taken. It can't be dropped: end it by `Book::give` or
+/// `Book::enter_and_give`.
 pub struct Busy<J: Kept> {
     pub(crate) seat: Place<J>,
     ghost labelled: { IsSome seat.me.0.label },

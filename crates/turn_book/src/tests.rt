@@ -34,14 +34,14 @@ impl Log {
         }
     }
 
-    // The entries of the thread are this many, in order.
+    // The entries of the thread are this many, in the order in which it made them.
     fn has_in_order(&self, thread: u64, entries: u64) -> bool {
         let made = self.entries.iter().filter(|entry| **entry / 1000 == thread);
         made.map(|entry| *entry % 1000).eq(0..entries)
     }
 }
 
-// Enters 1000 * thread, and so on, one entry in each turn.
+// Enters this many entries, one in each turn: 1000 times the thread, and so on.
 fn enter_many<R: Wait>(
     rt: &R,
     book: &Book<Log>,
@@ -109,14 +109,18 @@ fn enter_beside<R: Threads + Wait + Sync>(
 ) -> Pass<Log>
     requires first { (first.book ≡ book.now) × (first.number ≡ 0) }
     requires second { second.book ≡ book.now }
-    ensures { (result.book ≡ first.book) × (result.room ≡ first.room + 1) × (result.seats ≡ first.seats) }
+    ensures { (result.book ≡ first.book)
+        × (result.room ≡ first.room + 1)
+        × (result.seats ≡ first.seats) }
 {
     thread::scope(
         thread::scope_env(),
         rt,
         |scope| -> Pass<Log>
             requires { (first.book ≡ book.now) × (first.number ≡ 0) × (second.book ≡ book.now) }
-            ensures { (result.book ≡ first.book) × (result.room ≡ first.room + 1) × (result.seats ≡ first.seats) }
+            ensures { (result.book ≡ first.book)
+                × (result.room ≡ first.room + 1)
+                × (result.seats ≡ first.seats) }
         {
             let promise = Onward(Snapshot::of(&second));
             match scope.spawn_with(promise, move || enter_many(rt, book, second, 1, 50)) {
@@ -142,7 +146,8 @@ fn a_scoped_thread_gives_its_pass_back(rt: HostRuntime) -> Result<(), Fail> {
     Ok(())
 }
 
-// Enters by a thread whose stack is larger than any memory, so that it can't be started, and by this thread where it wasn't.
+// Enters by a thread that can't be started, since its stack is larger than any memory, and so by
+// this thread.
 fn enter_refused<R: Threads + Wait + Copy + Send + 'static>(
     rt: R,
     book: Arc<Book<Log>, Global>,

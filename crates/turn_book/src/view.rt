@@ -34,7 +34,17 @@ pub(crate) struct Opening<J> {
     pub(crate) seats: u32,
 }
 
-// Word 0 is the length of the history, word 1 the tickets drawn, and word 2 the ticket that is served. Slot 0 has the value.
+// The words: the length of the history, the tickets drawn, and the ticket that is served.
+pub(crate) const COUNT: usize = 0;
+
+pub(crate) const TICKET: usize = 1;
+
+pub(crate) const SERVING: usize = 2;
+
+// The slot that has the value.
+pub(crate) const VALUE: usize = 0;
+
+// The rule of the table.
 pub(crate) struct InTurn<J> {
     kept: PhantomData<J>,
 }

@@ -166,8 +166,11 @@ fn run_beside<'b, 'a, R: Threads + Wait + Sync, C: Ticks>(
         thread::scope_env(),
         rt,
         |scope| -> (Pass<Run<C>>, Pass<Run<C>>)
-            requires { (one.pass.book ≡ one.book.now) × (other.pass.book ≡ other.book.now) × IsSync R.row }
-            ensures { (result.0 ≡ record one.entry.pass { seen = result.0.seen; mine = result.0.mine }) × (result.1 ≡ record other.entry.pass { seen = result.1.seen; mine = result.1.mine }) }
+            requires { (one.pass.book ≡ one.book.now)
+                × (other.pass.book ≡ other.book.now)
+                × IsSync R.row }
+            ensures { (result.0 ≡ record one.entry.pass { seen = result.0.seen; mine = result.0.mine })
+                × (result.1 ≡ record other.entry.pass { seen = result.1.seen; mine = result.1.mine }) }
         { run_both(scope, one, other) },
     )
 }

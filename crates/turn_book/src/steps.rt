@@ -1,4 +1,4 @@
-// The steps on the table.
+// The steps on the table. A type for each kind of step says what it tells the seat that makes it.
 ghost use Rattle.std.specs.Prelude.{◌≡◌, ◌≤◌, ◌∷◌, ◌++◌, [], IfOk, IfErr};
 ghost use mathlib.Core.List.{IsPrefix};
 ghost use Rattle.turn_book.specs.PassView.{with_entry};
@@ -8,8 +8,75 @@ ghost use Rattle.turn_book.specs.Steps.{rest_of, part_of, joined};
 use crate::book::Book;
 use crate::kept::Kept;
 use crate::pass::{Busy, Holder, Pass, Waiting};
-use crate::step::{Cut, Draw, Enter, Glue, Leave, Look};
-use crate::view::Place;
+use crate::view::{COUNT, Place, SERVING, TICKET, VALUE, View};
+use atomic_table::{Join, Play, Split};
+use std::marker::PhantomData;
+
+// A ticket is drawn.
+pub(crate) struct Draw<J> {
+    kept: PhantomData<J>,
+}
+
+impl<J: Kept> Play<Option<J>, View<J::Entry, J::Label>> for Draw<J> {
+    ghost use Rattle.turn_book.specs.Steps.{drew};
+
+    ghost then = { drew };
+}
+
+// The ticket that is served is looked at.
+pub(crate) struct Look<J> {
+    kept: PhantomData<J>,
+}
+
+impl<J: Kept> Play<Option<J>, View<J::Entry, J::Label>> for Look<J> {
+    ghost use Rattle.turn_book.specs.Steps.{looked};
+
+    ghost then = { looked J.history J.label };
+}
+
+// The history is one entry longer.
+pub(crate) struct Enter<J> {
+    kept: PhantomData<J>,
+}
+
+impl<J: Kept> Play<Option<J>, View<J::Entry, J::Label>> for Enter<J> {
+    ghost use Rattle.turn_book.specs.Steps.{entered};
+
+    ghost then = { entered J.history };
+}
+
+// The next ticket is served.
+pub(crate) struct Leave<J> {
+    kept: PhantomData<J>,
+}
+
+impl<J: Kept> Play<Option<J>, View<J::Entry, J::Label>> for Leave<J> {
+    ghost use Rattle.turn_book.specs.Steps.{left};
+
+    ghost then = { left };
+}
+
+// The new pass has the number of the split.
+pub(crate) struct Cut;
+
+impl<E, L> Split<View<E, L>> for Cut {
+    ghost use Rattle.turn_book.specs.Steps.{rest_of, part_of};
+
+    ghost left = { rest_of };
+
+    ghost right = { part_of };
+}
+
+// The kept pass takes over the seat of the ended one, and what that one knows.
+pub(crate) struct Glue;
+
+impl<E, L> Join<View<E, L>> for Glue {
+    ghost use Rattle.turn_book.specs.Steps.{joined, spent as spent_view};
+
+    ghost both = { joined };
+
+    ghost spent = { spent_view };
+}
 
 impl<J: Kept> Book<J> {
     // Draws the next ticket.
@@ -18,7 +85,7 @@ impl<J: Kept> Book<J> {
         ensures { result ≡ pass }
     {
         let Pass { mut seat } = pass;
-        let ticket = self.table.shared.fetch_add::<Draw<J>>(&mut seat, 1, 1);
+        let ticket = self.table.shared.fetch_add::<Draw<J>>(&mut seat, TICKET, 1);
         Waiting { seat, ticket }
     }
 
@@ -31,7 +98,7 @@ impl<J: Kept> Book<J> {
         ensures not_yet { IfErr result (λ w. w ≡ waiting) }
     {
         let Waiting { mut seat, ticket } = waiting;
-        let served = self.table.shared.load::<Look<J>>(&mut seat, 2);
+        let served = self.table.shared.load::<Look<J>>(&mut seat, SERVING);
         if served == ticket {
             Ok(Holder { seat })
         } else {
@@ -45,7 +112,7 @@ impl<J: Kept> Book<J> {
         ensures { (result.0 ≡ holder.state) × (result.1 ≡ holder.pass) }
     {
         let Holder { mut seat } = holder;
-        let state = self.table.shared.exchange(&mut seat, 0, None).unwrap();
+        let state = self.table.shared.exchange(&mut seat, VALUE, None).unwrap();
         (state, Busy { seat })
     }
 
@@ -55,19 +122,20 @@ impl<J: Kept> Book<J> {
         ensures { result ≡ record { pass = busy; state = state } }
     {
         let Busy { mut seat } = busy;
-        drop(self.table.shared.exchange(&mut seat, 0, Some(state)));
+        drop(self.table.shared.exchange(&mut seat, VALUE, Some(state)));
         Holder { seat }
     }
 
     // Enters the one entry that the value has more than was seen.
     pub(crate) fn enter(&self, holder: &mut Holder<J>)
         requires book { holder.old.pass.book ≡ self.now }
-        requires entry { (e : J.Entry) × (J.history holder.old.state ≡ holder.old.pass.seen ++ e ∷ []) }
+        requires entry { (e : J.Entry)
+            × (J.history holder.old.state ≡ holder.old.pass.seen ++ e ∷ []) }
         ensures { (e : J.Entry) → J.history holder.old.state ≡ holder.old.pass.seen ++ e ∷ []
             → holder.new ≡ record holder.old { pass = with_entry holder.old.pass e } }
     {
         let shared = &self.table.shared;
-        shared.fetch_add::<Enter<J>>(&mut holder.seat, 0, 1);
+        shared.fetch_add::<Enter<J>>(&mut holder.seat, COUNT, 1);
     }
 
     // Lets the next ticket be served.
@@ -78,7 +146,9 @@ impl<J: Kept> Book<J> {
         ensures { result ≡ holder.pass }
     {
         let Holder { mut seat } = holder;
-        self.table.shared.fetch_add::<Leave<J>>(&mut seat, 2, 1);
+        self.table
+            .shared
+            .fetch_add::<Leave<J>>(&mut seat, SERVING, 1);
         Pass { seat }
     }
 
