@@ -1,0 +1,9 @@
+pub mod Closing
+pub mod Joining
+pub mod Logs
+pub mod Moves
+pub mod Opening
+pub mod Seats
+pub mod Splitting
+pub mod Turns
+pub mod Views

@@ -1,0 +1,5 @@
+pub mod History
+pub mod PassView
+pub mod Rule
+pub mod Seated
+pub mod Steps
