@@ -20,7 +20,7 @@ pub returns-in-Err-Usage-clause-load_cause : goal.returns-in-Err-Usage-clause-lo
 returns-in-Err-Usage-clause-load_cause g c = λ rose. absurd (omega (arith, rose))
 
 pub returns-in-Err-Usage-clause-room_cause : goal.returns-in-Err-Usage-clause-room_cause
-returns-in-Err-Usage-clause-room_cause g c = λ rose. inr (c.in-Err-Usage.ensures.usage refl, usage_cause _ _ _ _ _ c.show_usage-end.result c.show_usage-end.ensures.says c.show_usage-end.ensures.counts c.new-journal.ensures.items rose)
+returns-in-Err-Usage-clause-room_cause g c = λ rose. inr ((rw c.in-Err-Usage.field-0-is at c.in-Err-Usage.ensures.usage) refl, usage_cause _ _ _ _ _ c.show_usage-end.result c.show_usage-end.ensures.says c.show_usage-end.ensures.counts c.new-journal.ensures.items rose)
 
 pub returns-in-Err-Memory-clause-does : goal.returns-in-Err-Memory-clause-does
 returns-in-Err-Memory-clause-does g c = (Err Memory, refl, unread refl c.new-journal.ensures.items (Wrote-nothing (g.K.Sink.told c.args.sink.now)) refl)
