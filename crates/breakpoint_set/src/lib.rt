@@ -1,0 +1,6 @@
+//! The lines of a program at which a node stops.
+#![tactic(auto)]
+
+mod marks;
+
+pub use marks::Marks;
