@@ -1,0 +1,11 @@
+//! The calls of a client that wait for an answer, numbered from 1.
+#![tactic(auto)]
+
+mod calls;
+mod fault;
+
+pub use calls::NumberedCalls;
+pub use fault::StartFault;
+
+#[cfg(test)]
+mod tests;

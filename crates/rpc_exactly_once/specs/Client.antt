@@ -1,0 +1,18 @@
+-- What is kept of a pending call, and the packet that is sent for it.
+use Rattle.std.specs.Prelude.{ℕ, List, Option, refl}
+use Rattle.std.specs.Coded.{Coded, code_by, coded×, coded_ℕ, coded_list}
+use Rattle.std.specs.FinMap as map
+use Rattle.std.specs.Option.{option_map}
+use Rattle.numbered_calls.specs.Calls.{Calls, floor_of}
+use Rattle.packet_wire.specs.declared.packet.Packet.{Packet}
+use Rattle.packet_wire.specs.declared.packet.Packet.TheVariants.{Call}
+use Rattle.rpc_exactly_once.specs.declared.client.OnceCall.{OnceCall}
+
+-- a call is stored as the tuple of its fields
+abbrev pub call_code : Coded OnceCall
+call_code =
+    code_by (ℕ × (ℕ × List ℕ)) (coded× coded_ℕ (coded× coded_ℕ (coded_list coded_ℕ))) (λ c. (c.to, (c.routine, c.args))) (λ p. record { to = p.0; routine = p.1.0; args = p.1.1 }) (λ _. refl)
+
+-- what the client `me` sends for a pending call, each time with the present floor
+abbrev pub packet_of : Calls OnceCall → ℕ → ℕ → Option Packet
+packet_of calls me seq = option_map (λ c. Call me c.to seq (floor_of calls) c.routine c.args) (map.get calls.pending seq)
