@@ -1,0 +1,3 @@
+mod Places
+mod Tables
+pub mod Turns

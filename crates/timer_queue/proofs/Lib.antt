@@ -1,0 +1,3 @@
+mod Lists
+mod Edits
+mod Order

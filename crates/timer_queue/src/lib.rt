@@ -1,0 +1,9 @@
+//! The time limits of a node, kept in the order in which they expire.
+#![tactic(auto)]
+
+mod queue;
+#[cfg(test)]
+mod tests;
+
+pub use queue::TimerQueue;
+pub use world_types::Owner;
