@@ -36,7 +36,7 @@ impl Rounds {
         })
     }
 
-    /// A round opens at the stamp `a`, where none is open. For want of memory all stays as it was.
+    /// A round opens at the stamp `a`. None is open before. For want of memory all stays as it was.
     pub fn start(&mut self, a: u64) -> Result<(), AllocError>
         requires { IsNone (opening_of self.old.rounds) }
         ensures ok { OnOk result (self.new ≡ record self.old { rounds = opened a self.old.rounds }) }
@@ -46,7 +46,7 @@ impl Rounds {
         Ok(())
     }
 
-    /// The node, one of those from 1, halts in the open round.
+    /// The node halts. Nodes are numbered from 1, and a round is open.
     pub fn halted(&mut self, node: u32)
         requires is_node { (1 ≤ node) × (node ≤ self.old.nodes) }
         requires one_open { IsSome (opening_of self.old.rounds) }
@@ -55,7 +55,7 @@ impl Rounds {
         self.halted[node as usize - 1] = true;
     }
 
-    /// The node, one of those from 1, goes on, where no round is open.
+    /// The node goes on. Nodes are numbered from 1, and no round is open.
     pub fn resumed(&mut self, node: u32)
         requires is_node { (1 ≤ node) × (node ≤ self.old.nodes) }
         requires none_open { IsNone (opening_of self.old.rounds) }
