@@ -1,4 +1,5 @@
-//! What a process keeps, what one step of it does, and the law that a process of a typed program is never stuck.
+//! What a process keeps, what one step of it does, the law that a process of a typed program is never stuck, and whose
+//! turn it is among processes.
 #![tactic(auto)]
 
 mod act;
@@ -7,6 +8,7 @@ mod item;
 mod law;
 mod obj;
 mod stack;
+mod status;
 
 pub use act::{Act, RemoteAsk, StepEnd};
 pub use frame::{Frame, Var};
@@ -14,6 +16,7 @@ pub use item::{Catch, Item};
 pub use law::never_stuck;
 pub use obj::Obj;
 pub use stack::Stack;
+pub use status::Status;
 
 #[cfg(test)]
 mod tests;
