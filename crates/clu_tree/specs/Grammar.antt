@@ -32,9 +32,10 @@ line_of (lexeme.Char _ n ∷ _) = n
 line_of (lexeme.Str _ n ∷ _) = n
 line_of (lexeme.Key _ n ∷ _) = n
 
--- a literal's value
+-- a literal's value, without a sign
 pub data ReadsLiteral : Tokens → Tokens → Value → Type 0 where
   string : {x : List ℕ} {l : ℕ} {r : Tokens} → ReadsLiteral (lexeme.Str x l ∷ r) r (v.Str x)
+  int : {n : ℤ} {l : ℕ} {r : Tokens} → ReadsLiteral (lexeme.Int n l ∷ r) r (v.Int n)
 
 mutual
   -- ReadsExpr 0 is an operand, with its prefixes and what follows a primary; each level above binds more loosely, and ReadsExpr 5 is any expression.
@@ -61,6 +62,8 @@ mutual
   pub data ReadsSimple : Tokens → Tokens → Stmt → Type 0 where
     put_line : {l k j : ℕ} {m r : Tokens} {a : Expr} → ReadsExpr 5 m (lexeme.Key key.RParen j ∷ r) a →
         ReadsSimple (lexeme.Key key.PutLine l ∷ lexeme.Key key.LParen k ∷ m) r (st.PutLine a l)
+    sleep : {l k j : ℕ} {m r : Tokens} {a : Expr} → ReadsExpr 5 m (lexeme.Key key.RParen j ∷ r) a →
+        ReadsSimple (lexeme.Key key.Sleep l ∷ lexeme.Key key.LParen k ∷ m) r (st.Sleep a l)
 
 -- a routine's parameters, and the bracket that closes them
 pub data ReadsParams : Tokens → Tokens → List Named → Type 0 where

@@ -1,7 +1,10 @@
 -- The typing rules of programs that were read.
 use Rattle.std.specs.Prelude.{ℕ, suc, ◌≤◌, ◌≡◌, List, [], ◌∷◌, length, None, pos, All, Any}
 use Rattle.clu_tree.specs.Grammar.{Reads}
+use Rattle.clu_tree.specs.declared.value.Value.{Value}
 use Rattle.clu_tree.specs.declared.value.Value.TheVariants as v
+use Rattle.clu_tree.specs.declared.shape.Shape.{Shape}
+use Rattle.clu_tree.specs.declared.shape.Shape.TheVariants as shape
 use Rattle.clu_tree.specs.declared.tree.Expr.{Expr, out-Expr}
 use Rattle.clu_tree.specs.declared.tree.Expr.TheOpen as e
 use Rattle.clu_tree.specs.declared.tree.FieldInit.{FieldInit}
@@ -17,30 +20,40 @@ use Rattle.clu_tree.specs.declared.program.NodePart.TheVariants as np
 use Rattle.clu_tree.specs.declared.program.NodeDecl.{NodeDecl}
 use Rattle.clu_tree.specs.declared.program.Program.{Program}
 
--- one layer of an expression is a string literal
-abbrev pub IsTextLayer : e.Expr-F Expr FieldInit → Type 0
-IsTextLayer (e.Literal (v.Str _) _) = Unit {0}
-IsTextLayer _ = ⊥
+-- the value of a literal has the type
+abbrev pub LiteralHas : Value → Shape → Type 0
+LiteralHas v.Nil t = t ≡ shape.Null
+LiteralHas (v.Bool b) t = t ≡ shape.Bool
+LiteralHas (v.Int n) t = t ≡ shape.Int
+LiteralHas (v.Char c) t = t ≡ shape.Char
+LiteralHas (v.Str text) t = t ≡ shape.Str
+LiteralHas (v.Ref at) t = ⊥
 
--- the expression is a string literal
-abbrev pub IsText : Expr → Type 0
-IsText x = IsTextLayer (out-Expr x)
+-- one layer of an expression has the type; only literals have one yet
+abbrev pub LayerHas : e.Expr-F Expr FieldInit → Shape → Type 0
+LayerHas (e.Literal value _) t = LiteralHas value t
+LayerHas _ t = ⊥
 
--- one layer of a statement prints a string literal
-abbrev pub IsPrintingLayer : st.Stmt-F Stmt Arm Handlers TagArm When → Type 0
-IsPrintingLayer (st.PutLine text _) = IsText text
-IsPrintingLayer _ = ⊥
+-- the expression has the type
+abbrev pub ExprHas : Expr → Shape → Type 0
+ExprHas x t = LayerHas (out-Expr x) t
 
--- the statement prints a string literal
-abbrev pub IsPrinting : Stmt → Type 0
-IsPrinting x = IsPrintingLayer (out-Stmt x)
+-- one layer of a statement is typed: `put_line` takes a string, `sleep` an int
+abbrev pub IsTypedLayer : st.Stmt-F Stmt Arm Handlers TagArm When → Type 0
+IsTypedLayer (st.PutLine text _) = ExprHas text shape.Str
+IsTypedLayer (st.Sleep time _) = ExprHas time shape.Int
+IsTypedLayer _ = ⊥
 
--- A routine has no parameters, no result and no signals, and its statements print string literals.
+-- the statement is typed
+abbrev pub IsTypedStmt : Stmt → Type 0
+IsTypedStmt x = IsTypedLayer (out-Stmt x)
+
+-- A routine has no parameters, no result and no signals, and its statements are typed.
 pub record IsTypedRoutine (routine : Routine) : Type 0 where
   pub params : routine.params ≡ []
   pub returns : routine.result ≡ None
   pub signals : routine.signals ≡ []
-  pub body : All IsPrinting routine.body
+  pub body : All IsTypedStmt routine.body
 
 -- the program has a routine of this name
 abbrev pub HasRoutine : Program → List ℕ → Type 0

@@ -1,9 +1,9 @@
 -- Typed frames have a row, and the frames that it leaves are typed.
-use Rattle.std.proofs.Common.{◌≡◌, ℕ, List, [], ◌∷◌, ◌++◌, map, Some, slice_get, refl, ap, subst}
-use Rattle.std.specs.Prelude.{All}
+use Rattle.std.proofs.Common.{◌≡◌, ℕ, pos, List, [], ◌∷◌, ◌++◌, map, Option, Some, slice_get, if◌then◌else◌, refl, ap, subst}
+use Rattle.std.specs.Prelude.{All, int_le}
 use Rattle.std.proofs.lemmas.List.Elements.{All-get_or, All-head, All-tail}
 use Rattle.std.proofs.lemmas.Option.{get_or_from_slice_get, slice_get_within}
-use Rattle.clu_tree.specs.Typed.{IsTyped, IsTypedRoutine, IsTextLayer, IsPrinting, IsPrintingLayer}
+use Rattle.clu_tree.specs.Typed.{IsTyped, IsTypedLayer, IsTypedRoutine, IsTypedStmt, LayerHas}
 use Rattle.clu_tree.specs.declared.value.Value.{Value}
 use Rattle.clu_tree.specs.declared.value.Value.TheVariants as value
 use Rattle.clu_tree.specs.declared.shape.Shape.{Shape}
@@ -24,8 +24,8 @@ use Rattle.machine_rules.specs.declared.item.Item.TheVariants as i
 use Rattle.machine_rules.specs.declared.frame.Frame.{Frame}
 use Rattle.machine_rules.specs.declared.act.Act.{Act}
 use Rattle.machine_rules.specs.declared.act.Act.TheVariants as act
-use Rattle.machine_rules.specs.declared.act.Act.TheVariants.{Put}
-use Rattle.machine_rules.specs.Row.{World, with, at_line, line_of, leaves, ends, fall, taking, eval, exec, on_str, gives, row_at, row_of}
+use Rattle.machine_rules.specs.declared.act.Act.TheVariants.{Put, Sleep}
+use Rattle.machine_rules.specs.Row.{Next, World, with, at_line, line_of, leaves, ends, fall, taking, eval, exec, naps, on_int, on_str, gives, row_at, row_of}
 use Rattle.machine_rules.specs.Typing.{HasShape, ValuesHave, result_of, ItemFits, WorkFits, BelowFit, IsSound, IsNeverStuck}
 
 -- what is known of the program, of the first frame's routine and of the frames below
@@ -43,12 +43,13 @@ all_at P xs k x h e = subst P (get_or_from_slice_get xs k x x e) (All-get_or P x
 went : {w : World} {p : Program} {r : Routine} {f : Frame} {fs : List Frame} → Here w p r f fs → (does : Act) (vs : List Value) (ts : List Shape) (work : List Item) → ValuesHave vs ts → WorkFits ts work → IsSound p (gives w [] does (with f work vs ∷ fs))
 went {r} here does vs ts work hv hw = record { next = _; is = refl; typed = (r, here.at, record { shapes = ts; values = hv; work = hw }, here.below) }
 
-eval_sound : {w : World} {p : Program} {r : Routine} {f : Frame} {fs : List Frame} → Here w p r f fs → (ts : List Shape) (t : Shape) (work : List Item) → ValuesHave f.values ts → WorkFits (t ∷ ts) work → t ≡ shape.Str → (x : ef.Expr-F Expr FieldInit) → IsTextLayer x → IsSound p (eval w f fs work x)
-eval_sound {f} here ts t work hv hw is (ef.Literal (value.Str text) line) h = went here act.Went (value.Str text ∷ f.values) (t ∷ ts) work (is, hv) hw
-eval_sound here ts t work hv hw is x h = elim h [ ]
+eval_sound : {w : World} {p : Program} {r : Routine} {f : Frame} {fs : List Frame} → Here w p r f fs → (ts : List Shape) (t : Shape) (work : List Item) → ValuesHave f.values ts → WorkFits (t ∷ ts) work → (x : ef.Expr-F Expr FieldInit) → LayerHas x t → IsSound p (eval w f fs work x)
+eval_sound {f} here ts t work hv hw (ef.Literal v line) h = went here act.Went (v ∷ f.values) (t ∷ ts) work (h, hv) hw
+eval_sound here ts t work hv hw x h = elim h [ ]
 
-exec_sound : {w : World} {p : Program} {r : Routine} {f : Frame} {fs : List Frame} → Here w p r f fs → (work : List Item) → ValuesHave f.values [] → WorkFits [] work → (x : sf.Stmt-F Stmt Arm Handlers TagArm When) → IsPrintingLayer x → IsSound p (exec w f fs work x)
-exec_sound {f} here work hv hw (sf.PutLine e line) h = went here act.Went f.values [] (i.Eval e ∷ i.Print ∷ work) hv (shape.Str, (h, refl), ([], refl, hw))
+exec_sound : {w : World} {p : Program} {r : Routine} {f : Frame} {fs : List Frame} → Here w p r f fs → (work : List Item) → ValuesHave f.values [] → WorkFits [] work → (x : sf.Stmt-F Stmt Arm Handlers TagArm When) → IsTypedLayer x → IsSound p (exec w f fs work x)
+exec_sound {f} here work hv hw (sf.PutLine e line) h = went here act.Went f.values [] (i.Eval e ∷ i.Print ∷ work) hv (shape.Str, h, ([], refl, hw))
+exec_sound {f} here work hv hw (sf.Sleep e line) h = went here act.Went f.values [] (i.Eval e ∷ i.Nap ∷ work) hv (shape.Int, h, ([], refl, hw))
 exec_sound here work hv hw x h = elim h [ ]
 
 print_sound : {w : World} {p : Program} {r : Routine} {f : Frame} {fs : List Frame} → Here w p r f fs → (us : List Shape) (work : List Item) (v : Value) (vs : List Value) → HasShape v shape.Str → ValuesHave vs us → WorkFits us work → IsSound p (on_str v (λ text. gives w [] (act.Put text) (with f work vs ∷ fs)))
@@ -59,9 +60,18 @@ print_sound here us work (value.Char c) vs h hv hw = cc
 print_sound here us work (value.Str text) vs h hv hw = went here (act.Put text) vs us work hv hw
 print_sound here us work (value.Ref at) vs h hv hw = elim h [ ]
 
-top_sound : {w : World} {p : Program} {r : Routine} {f : Frame} {fs : List Frame} → Here w p r f fs → (us : List Shape) (work : List Item) (vs : List Value) → ValuesHave vs (shape.Str ∷ us) → WorkFits us work → IsSound p (taking vs (λ v values. on_str v (λ text. gives w [] (act.Put text) (with f work values ∷ fs))))
-top_sound here us work [] hv hw = elim hv [ ]
-top_sound here us work (v ∷ vs) hv hw = print_sound here us work v vs hv.0 hv.1 hw
+nap_sound : {w : World} {p : Program} {r : Routine} {f : Frame} {fs : List Frame} → Here w p r f fs → (us : List Shape) (work : List Item) (v : Value) (vs : List Value) → HasShape v shape.Int → ValuesHave vs us → WorkFits us work → IsSound p (on_int v (naps w (with f work vs ∷ fs)))
+nap_sound here us work value.Nil vs h hv hw = cc
+nap_sound here us work (value.Bool b) vs h hv hw = cc
+nap_sound here us work (value.Int n) vs h hv hw = went here (if int_le n (pos 0) then act.Went else act.Sleep n) vs us work hv hw
+nap_sound here us work (value.Char c) vs h hv hw = cc
+nap_sound here us work (value.Str text) vs h hv hw = cc
+nap_sound here us work (value.Ref at) vs h hv hw = elim h [ ]
+
+-- an item that takes the first value
+taking_sound : {p : Program} → (t : Shape) (us : List Shape) (vs : List Value) (go : Value → List Value → Option Next) → ValuesHave vs (t ∷ us) → ((v : Value) (rest : List Value) → HasShape v t → ValuesHave rest us → IsSound p (go v rest)) → IsSound p (taking vs go)
+taking_sound t us [] go hv sound = elim hv [ ]
+taking_sound t us (v ∷ vs) go hv sound = sound v vs hv.0 hv.1
 
 ends_sound : (w : World) (p : Program) (r : Routine) (v : Value) (fs : List Frame) (work : List Item) → HasShape v (result_of r.result) → BelowFit p r fs → IsSound p (ends w (leaves work) v fs)
 ends_sound w p r v [] work h below = record { next = _; is = refl; typed = tt }
@@ -75,14 +85,16 @@ fall_sound {w} {p} {r} {f} {fs} here work =
     rw (here.program, here.at, none) (ends_sound w p r value.Nil fs work (ap result_of none) here.below)
 
 item_sound : {w : World} {p : Program} {r : Routine} {f : Frame} {fs : List Frame} → Here w p r f fs → (item : Item) (work : List Item) (ts : List Shape) → ValuesHave f.values ts → ItemFits ts item (λ us. WorkFits us work) → IsSound p (row_at w f fs work item)
-item_sound here (i.Eval e) work ts hv h = eval_sound here ts h.0 work hv h.2 h.1.1 (out-Expr e) h.1.0
+item_sound here (i.Eval e) work ts hv h = eval_sound here ts h.0 work hv h.2 (out-Expr e) h.1
 item_sound here i.Fall work ts hv h = fall_sound here work
 item_sound {w} {f} {fs} here (i.Exec s) work ts hv h =
     let moved = at_line f (line_of f.line (out-Stmt s)) in
     let empty : ValuesHave f.values [] = subst (λ (us : List Shape). ValuesHave f.values us) h.0 hv in
     exec_sound {w = w} {f = moved} (record { program = here.program; good = here.good; at = here.at; below = here.below }) work empty h.2 (out-Stmt s) h.1
 item_sound {f} here i.Print work ts hv h =
-    top_sound here h.0 work f.values (subst (λ (us : List Shape). ValuesHave f.values us) h.1 hv) h.2
+    taking_sound shape.Str h.0 f.values _ (subst (λ (us : List Shape). ValuesHave f.values us) h.1 hv) (λ v vs is hvs. print_sound here h.0 work v vs is hvs h.2)
+item_sound {f} here i.Nap work ts hv h =
+    taking_sound shape.Int h.0 f.values _ (subst (λ (us : List Shape). ValuesHave f.values us) h.1 hv) (λ v vs is hvs. nap_sound here h.0 work v vs is hvs h.2)
 item_sound here item work ts hv h = elim h [ ]
 
 -- typed work has a row
@@ -91,9 +103,9 @@ work_sound here [] ts hv h = elim h [ ]
 work_sound here (item ∷ work) ts hv h = item_sound here item work ts hv h
 
 -- the statements of a body come before typed work
-body_fits : (ss : List Stmt) (work : List Item) → All IsPrinting ss → WorkFits [] work → WorkFits [] (map i.Exec ss ++ work)
+body_fits : (ss : List Stmt) (work : List Item) → All IsTypedStmt ss → WorkFits [] work → WorkFits [] (map i.Exec ss ++ work)
 body_fits [] work h hw = hw
-body_fits (s ∷ ss) work h hw = (refl, All-head IsPrinting s ss h, body_fits ss work (All-tail IsPrinting s ss h) hw)
+body_fits (s ∷ ss) work h hw = (refl, All-head IsTypedStmt s ss h, body_fits ss work (All-tail IsTypedStmt s ss h) hw)
 
 pub never_stuck : (p : Program) → IsTyped p → IsNeverStuck p
 never_stuck p good = record {

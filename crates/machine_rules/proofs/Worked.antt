@@ -1,5 +1,5 @@
 -- The steps of a small program, computed.
-use Rattle.std.proofs.Common.{◌≡◌, ℕ, zero, suc, List, [], ◌∷◌, codes, Option, Some, None, refl}
+use Rattle.std.proofs.Common.{◌≡◌, ℕ, zero, suc, pos, List, [], ◌∷◌, codes, Option, Some, None, refl}
 use denote.Hole.Carrier
 use Rattle.clu_tree.specs.declared.value.Value.TheVariants as value
 use Rattle.clu_tree.specs.declared.tree.Expr.{out-Expr}
@@ -32,6 +32,17 @@ acts_of body =
 hello : acts_of (s.PutLine (e.Literal (value.Str (codes "hi")) 2) 2 ∷ []) ≡ act.Went ∷ act.Went ∷ act.Put (codes "hi") ∷ act.Ended value.Nil ∷ []
 unfolding out-Expr out-Stmt Carrier.out
 hello = refl
+
+-- a sleep takes three steps, and goes on behind it
+nap : acts_of (s.Sleep (e.Literal (value.Int (pos 100)) 2) 2 ∷ s.PutLine (e.Literal (value.Str (codes "up")) 3) 3 ∷ []) ≡
+    act.Went ∷ act.Went ∷ act.Sleep (pos 100) ∷ act.Went ∷ act.Went ∷ act.Put (codes "up") ∷ act.Ended value.Nil ∷ []
+unfolding out-Expr out-Stmt Carrier.out
+nap = refl
+
+-- a sleep of no time doesn't wait
+no_nap : acts_of (s.Sleep (e.Literal (value.Int (pos 0)) 2) 2 ∷ []) ≡ act.Went ∷ act.Went ∷ act.Went ∷ act.Ended value.Nil ∷ []
+unfolding out-Expr out-Stmt Carrier.out
+no_nap = refl
 
 -- an empty body takes one step
 nothing : acts_of [] ≡ act.Ended value.Nil ∷ []

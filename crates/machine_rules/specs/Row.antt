@@ -1,5 +1,5 @@
 -- What one step of a process does: the first item of the work list decides.
-use Rattle.std.specs.Prelude.{ℕ, if◌then◌else◌, List, [], ◌∷◌, ◌++◌, map, Option, Some, None, slice_get}
+use Rattle.std.specs.Prelude.{ℕ, ℤ, pos, int_le, if◌then◌else◌, List, [], ◌∷◌, ◌++◌, map, Option, Some, None, slice_get}
 use Rattle.std.specs.Str.{bytes_eq}
 use Rattle.clu_tree.specs.declared.value.Addr.{Addr}
 use Rattle.clu_tree.specs.declared.value.Value.{Value}
@@ -108,6 +108,11 @@ abbrev pub on_str : Value → (List ℕ → Option Next) → Option Next
 on_str (value.Str text) go = go text
 on_str _ go = None
 
+-- the value is an int
+abbrev pub on_int : Value → (ℤ → Option Next) → Option Next
+on_int (value.Int n) go = go n
+on_int _ go = None
+
 -- ---- rows. Each begins with the world, the frame, the frames below it, and the work behind the first item
 
 -- the end of the body of a routine with this result; what falls off the end of one with a result has no row yet
@@ -149,9 +154,14 @@ line_of was (sf.Region _ _ line) = line
 line_of was (sf.Except _ _) = was
 line_of was (sf.Resignal _ _) = was
 
--- a statement is begun, by a frame that is at its line; only put_line has a row yet
+-- a sleep of so many ms: of none, or of less, the process goes on at once
+abbrev pub naps : World → List Frame → ℤ → Option Next
+naps w frames ms = gives w [] (if int_le ms (pos 0) then act.Went else act.Sleep ms) frames
+
+-- a statement is begun, by a frame that is at its line; only put_line and sleep have a row yet
 abbrev pub exec : World → Frame → List Frame → List Item → sf.Stmt-F Stmt Arm Handlers TagArm When → Option Next
 exec w f fs work (sf.PutLine e _) = evals w f fs e (i.Print ∷ work)
+exec w f fs work (sf.Sleep e _) = evals w f fs e (i.Nap ∷ work)
 exec w f fs work _ = None
 
 -- the row of the first item; the items that are not named have none yet
@@ -160,6 +170,7 @@ row_at w f fs work (i.Eval e) = eval w f fs work (out-Expr e)
 row_at w f fs work i.Fall = fall w (leaves work) fs (slice_get w.program.routines f.routine)
 row_at w f fs work (i.Exec s) = exec w (at_line f (line_of f.line (out-Stmt s))) fs work (out-Stmt s)
 row_at w f fs work i.Print = taking f.values (λ v values. on_str v (λ text. gives w [] (act.Put text) (with f work values ∷ fs)))
+row_at w f fs work i.Nap = taking f.values (λ v values. on_int v (naps w (with f work values ∷ fs)))
 row_at w f fs work _ = None
 
 -- the row of a frame with this work

@@ -1,6 +1,6 @@
 -- When the values, the work and the frames of a process of a typed program are typed.
 use Rattle.std.specs.Prelude.{◌≡◌, ℕ, List, [], ◌∷◌, ◌++◌, Option, Some, None, slice_get}
-use Rattle.clu_tree.specs.Typed.{IsText, IsPrinting}
+use Rattle.clu_tree.specs.Typed.{ExprHas, IsTypedStmt, LiteralHas}
 use Rattle.clu_tree.specs.declared.value.Value.{Value}
 use Rattle.clu_tree.specs.declared.value.Value.TheVariants as value
 use Rattle.clu_tree.specs.declared.shape.Shape.{Shape}
@@ -16,12 +16,7 @@ use Rattle.machine_rules.specs.Row.{World, Next, start, row}
 
 -- the value has the type; there are no objects yet
 abbrev pub HasShape : Value → Shape → Type 0
-HasShape value.Nil t = t ≡ shape.Null
-HasShape (value.Bool b) t = t ≡ shape.Bool
-HasShape (value.Int n) t = t ≡ shape.Int
-HasShape (value.Char c) t = t ≡ shape.Char
-HasShape (value.Str text) t = t ≡ shape.Str
-HasShape (value.Ref at) t = ⊥
+HasShape v t = LiteralHas v t
 
 -- the values have these types, one each
 abbrev pub ValuesHave : List Value → List Shape → Type 0
@@ -42,17 +37,14 @@ abbrev pub result_of : Option Shape → Shape
 result_of None = shape.Null
 result_of (Some t) = t
 
--- the expression has the type
-abbrev pub ExprHas : Expr → Shape → Type 0
-ExprHas e t = IsText e × (t ≡ shape.Str)
-
 -- the item is typed where the frame's values have these types, and what comes behind it is typed with the types that
 -- it leaves; the items that are not named are in no process yet
 abbrev pub ItemFits : List Shape → Item → (List Shape → Type 0) → Type 0
 ItemFits ts (i.Eval e) Rest = (t : Shape) × ExprHas e t × Rest (t ∷ ts)
 ItemFits ts i.Fall Rest = Unit {0}
-ItemFits ts (i.Exec s) Rest = (ts ≡ []) × IsPrinting s × Rest []
+ItemFits ts (i.Exec s) Rest = (ts ≡ []) × IsTypedStmt s × Rest []
 ItemFits ts i.Print Rest = (us : List Shape) × (ts ≡ shape.Str ∷ us) × Rest us
+ItemFits ts i.Nap Rest = (us : List Shape) × (ts ≡ shape.Int ∷ us) × Rest us
 ItemFits ts _ Rest = ⊥
 
 -- the work is typed where the frame's values have these types
