@@ -1,6 +1,7 @@
-ghost use Rattle.std.specs.Prelude.{◌≡◌, ◌∷◌, ◌++◌, [], Some, IfOk, IsSome, OnOk, map, slice_get};
+ghost use Rattle.std.specs.Prelude.{◌≡◌, ◌∷◌, ◌++◌, [], Some, IfOk, IsSome, OnOk, if◌then◌else◌, int_le, map, pos, slice_get};
 ghost use Rattle.clu_tree.specs.declared.value.Value.TheVariants as value;
 ghost use Rattle.machine_rules.specs.Row as rule;
+ghost use Rattle.machine_rules.specs.declared.act.Act.TheVariants as act;
 ghost use Rattle.machine_rules.specs.declared.item.Item.TheVariants.{Exec};
 ghost use Rattle.machine_rules.specs.Row.{World};
 
@@ -61,21 +62,55 @@ pub fn row_at(
             frame.work.push(Item::Eval(text))?;
             goes(alloc, frames, frame, Act::Went)
         }
+        Item::Exec(Stmt::Sleep(time, line)) => {
+            frame.line = line;
+            frame.work.push(Item::Nap)?;
+            frame.work.push(Item::Eval(time))?;
+            goes(alloc, frames, frame, Act::Went)
+        }
         Item::Print => match frame.values.pop() {
             Some(Value::Str(text)) => goes(alloc, frames, frame, Act::Put(text)),
             _ => unreachable!(),
         },
-        Item::Fall => match program.routines.get(frame.routine as usize) {
-            Some(routine) => match routine.result {
-                None => {
-                    let left = leaves(alloc, frame.work)?;
-                    ends(frames, left, Value::Nil)
-                }
-                Some(_) => unreachable!(),
-            },
-            None => unreachable!(),
+        Item::Nap => match frame.values.pop() {
+            Some(Value::Int(ms)) => goes(alloc, frames, frame, nap(ms)),
+            _ => unreachable!(),
         },
+        Item::Fall => fall(alloc, program, time, frames, frame),
         _ => unreachable!(),
+    }
+}
+
+/// The act of a sleep of so many ms: of none, or of less, the process goes on at once.
+fn nap(ms: i64) -> Act
+    ensures { result ≡ (if int_le ms (pos 0) then act.Went else act.Sleep ms) }
+{
+    if ms <= 0 {
+        return Act::Went;
+    }
+    Act::Sleep(ms)
+}
+
+/// The end of the body of the frame's routine.
+fn fall(
+    alloc: Global,
+    program: &Program,
+    time: u64,
+    frames: &mut Stack<Frame>,
+    frame: Frame,
+) -> Result<StepEnd, AllocError>
+    requires { IsSome (rule.fall (rule.bare_world program.now time) (rule.leaves frame.work) frames.old (slice_get program.now.routines frame.routine)) }
+    ensures { IfOk result (λ end. rule.fall (rule.bare_world program.now time) (rule.leaves frame.work) frames.old (slice_get program.now.routines frame.routine) ≡ Some (record { left = end.left; act = end.act; store = []; frames = frames.new })) }
+{
+    match program.routines.get(frame.routine as usize) {
+        Some(routine) => match routine.result {
+            None => {
+                let left = leaves(alloc, frame.work)?;
+                ends(frames, left, Value::Nil)
+            }
+            Some(_) => unreachable!(),
+        },
+        None => unreachable!(),
     }
 }
 

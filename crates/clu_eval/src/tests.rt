@@ -1,5 +1,5 @@
 ghost use Rattle.std.specs.Prelude.{◌≡◌, [], Some, IfOk, slice_get, All};
-ghost use Rattle.clu_tree.specs.Typed.{IsTyped, IsPrinting};
+ghost use Rattle.clu_tree.specs.Typed.{IsTyped, IsTypedStmt};
 ghost use Rattle.clu_tree.specs.declared.program.Routine.{Routine};
 ghost use Rattle.machine_rules.specs.Typing.{ArgsFit};
 
@@ -11,7 +11,7 @@ use std::test::Fail;
 
 /// So many times `put_line(line)`.
 fn lines(alloc: Global, line: &[u8], times: u32) -> Result<Items<Stmt>, AllocError>
-    ensures { IfOk result (λ body. All IsPrinting body) }
+    ensures { IfOk result (λ body. All IsTypedStmt body) }
 {
     let mut body = Items::new(alloc);
     for _ in 0..times {
@@ -23,7 +23,7 @@ fn lines(alloc: Global, line: &[u8], times: u32) -> Result<Items<Stmt>, AllocErr
 
 /// `hello = proc () body end hello node 1 is end`
 fn hello(alloc: Global, body: Items<Stmt>) -> Result<Program, AllocError>
-    requires { All IsPrinting body }
+    requires { All IsTypedStmt body }
     ensures typed { IfOk result (λ p. IsTyped p) }
     ensures starts { IfOk result (λ p. (r : Routine) × (slice_get p.routines 0 ≡ Some r) × ArgsFit [] r.params) }
 {

@@ -1,10 +1,10 @@
 //! The steps of a turn.
 
-ghost use Rattle.std.specs.Prelude.{◌≡◌, ◌≢◌, ◌≤◌, [], IfOk, OnOk};
+ghost use Rattle.std.specs.Prelude.{◌≡◌, ◌≢◌, ◌≤◌, ◌<◌, ◌^◌, [], IfOk, OnOk};
 ghost use Rattle.clu_tree.specs.Typed.{IsTyped};
 ghost use Rattle.machine_rules.specs.Typing.{FramesFit};
 ghost use Rattle.world_rules.specs.Plain.{join};
-ghost use Rattle.node_core.specs.Acts.{IsNoted, RanTo, noted};
+ghost use Rattle.node_core.specs.Acts.{IsNoted, RanTo, after_of, noted};
 
 use crate::lines::line_of;
 use clu_eval::{Act, Process, StepEnd};
@@ -15,35 +15,56 @@ use world_types::{Effects, Line, Mark};
 /// The number of the only process.
 pub const PROCESS: u64 = 1;
 
-/// What a turn leaves: the process, unless it is over, the steps taken, and their effects.
+/// What a process does behind a step.
+#[derive(Clone, Copy)]
+enum After {
+    /// It may take another step.
+    Ready,
+    /// It sleeps until this time, in ms.
+    Asleep(u64),
+    Over,
+}
+
+/// What a turn leaves: the process, unless it is over, the time until which it sleeps, if it does, the steps taken, and
+/// their effects.
 #[derive(Drop)]
 pub struct Ran {
     pub process: Option<Process>,
+    pub asleep: Option<u64>,
     pub steps: u32,
     pub effects: Effects,
 }
 
-/// Adds what a step does at the node to the effects.
-fn note(alloc: Global, number: u32, effects: &mut Effects, act: Act) -> Result<(), AllocError>
-    requires { IsNoted act }
-    ensures { OnOk result (effects.new ≡ join effects.old (noted number act)) }
+/// Adds what a step does at the node to the effects, and answers what the process does behind it.
+fn note(
+    alloc: Global,
+    number: u32,
+    time: u64,
+    effects: &mut Effects,
+    act: Act,
+) -> Result<After, AllocError>
+    requires noted { IsNoted act }
+    requires early { time < 2 ^ 62 }
+    ensures effects { OnOk result (effects.new ≡ join effects.old (noted number act)) }
+    ensures after { IfOk result (λ after. after ≡ after_of time act) }
 {
     match act {
-        Act::Went => Ok(()),
+        Act::Went => Ok(After::Ready),
         Act::Put(text) => {
             let text = line_of(alloc, number, text.as_slice())?;
             effects.lines.push(Line { node: number, text })?;
-            Ok(())
+            Ok(After::Ready)
         }
+        Act::Sleep(ms) => Ok(After::Asleep(time + ms.unsigned_abs())),
         Act::Ended(_) => {
             effects.marks.push(Mark::Ended(PROCESS))?;
-            Ok(())
+            Ok(After::Over)
         }
         _ => unreachable!(),
     }
 }
 
-/// Takes steps of a process that was picked at the node, up to the limit or its end.
+/// Takes steps of a process that was picked at the node, up to the limit, its sleep or its end.
 pub fn run(
     alloc: Global,
     program: &Program,
@@ -56,24 +77,37 @@ pub fn run(
     requires fits { FramesFit program.now process }
     requires goes_on { process ≢ [] }
     requires some { 1 ≤ limit }
+    requires early { time < 2 ^ 62 }
     ensures { IfOk result (λ ran. RanTo program.now number process time limit ran) }
 {
     let mut effects = Effects::nothing(alloc);
     let mut steps = 0;
     while steps < limit {
         let StepEnd { left: _, act } = process.step(alloc, program, time)?;
-        note(alloc, number, &mut effects, act)?;
         steps += 1;
-        if process.is_over() {
-            return Ok(Ran {
-                process: None,
-                steps,
-                effects,
-            });
+        match note(alloc, number, time, &mut effects, act)? {
+            After::Ready => {}
+            After::Asleep(until) => {
+                return Ok(Ran {
+                    process: Some(process),
+                    asleep: Some(until),
+                    steps,
+                    effects,
+                });
+            }
+            After::Over => {
+                return Ok(Ran {
+                    process: None,
+                    asleep: None,
+                    steps,
+                    effects,
+                });
+            }
         }
     }
     Ok(Ran {
         process: Some(process),
+        asleep: None,
         steps,
         effects,
     })

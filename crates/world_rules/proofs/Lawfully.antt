@@ -11,7 +11,7 @@ use Rattle.world_types.specs.Limits.{Limit}
 use Rattle.world_types.specs.declared.effects.Owner.{Owner}
 use Rattle.world_types.specs.declared.effects.Owner.TheVariants as owner
 use Rattle.world_rules.specs.Plain.{Lawful, and_then, behind}
-use Rattle.world_rules.specs.Node.{NodeState, acted, advance, can_turn, due, expire, expired, expiring, picked_at, picks, ready_frames, rules_of, step_of, steps, turn}
+use Rattle.world_rules.specs.Node.{NodeState, acted, advance, can_turn, due, expire, expired, expiring, picked_at, picks, ready_frames, rules_of, step_of, steps, tick, turn}
 use Rattle.world_rules.proofs.Following.{and_left, and_right}
 use Rattle.world_rules.proofs.Plainly.{and_then_some}
 
@@ -122,7 +122,7 @@ advance-time s t = expire-time (expiring s t) (record s { time = t })
 advanced_time : (s : NodeState) (t : ℕ) (b : Bool) (a : NodeState × Effects) → (if b then Some (advance s t) else None) ≡ Some a → a.0.time ≡ t
 advanced_time s t b a h = let e = some_fst _ _ (passed_at b (Some (advance s t)) a h) in sym (ap (λ (x : NodeState). x.time) e) ∙ advance-time s t
 
-tick_is : (s : NodeState) (t : ℕ) → IsSome (if nat_le s.time t && due s t then Some (advance s t) else None) → (due s t ≡ true) × (s.time ≤ t)
+tick_is : (s : NodeState) (t : ℕ) → IsSome (tick s t) → (due s t ≡ true) × (s.time ≤ t)
 tick_is s t h =
     let test = (passed (nat_le s.time t && due s t) (Some (advance s t)) h).test in
     (and_right (nat_le s.time t) (due s t) test, leb-true s.time t (and_left (nat_le s.time t) (due s t) test))

@@ -1,5 +1,5 @@
 -- What a small program writes, computed.
-use Rattle.std.proofs.Common.{◌≡◌, ℕ, pos, List, [], ◌∷◌, ◌++◌, codes, Option, Some, None, ap, arith}
+use Rattle.std.proofs.Common.{◌≡◌, ℕ, pos, Bool, true, false, List, [], ◌∷◌, ◌++◌, codes, Option, Some, None, is_some, refl, ap, arith}
 use denote.Hole.Carrier
 use Rattle.std.specs.Fmt.{decimal}
 use Rattle.std.proofs.lemmas.Fmt.{decimal-digits_of}
@@ -11,6 +11,7 @@ use Rattle.clu_tree.specs.declared.tree.Stmt.TheVariants as s
 use Rattle.clu_tree.specs.declared.program.NodePart.TheVariants as part
 use Rattle.clu_tree.specs.declared.program.Program.{Program}
 use Rattle.world_types.specs.declared.event.Event.TheVariants as event
+use Rattle.world_types.specs.declared.event.PlainEvent.{PlainEvent}
 use Rattle.world_types.specs.declared.event.PlainEvent.TheVariants as plain_event
 use Rattle.world_types.specs.declared.effects.Effects.{Effects}
 use Rattle.world_rules.specs.Plain.{World, plain}
@@ -32,9 +33,45 @@ greeting = record {
   nodes = record { number = pos 1; parts = part.Start (codes "hello") [] 4 ∷ []; line = 4 } ∷ [];
 }
 
+-- a routine that sleeps for 100 ms and prints `up`, started at the node 1
+abbrev pub napping : Program
+napping = record {
+  equates = [];
+  node_vars = [];
+  routines = record { name = codes "nap"; params = []; result = None; signals = []; body = s.Sleep (e.Literal (value.Int (pos 100)) 2) 2 ∷ s.PutLine (e.Literal (value.Str (codes "up")) 3) 3 ∷ []; line = 1 } ∷ [];
+  clusters = [];
+  nodes = record { number = pos 1; parts = part.Start (codes "nap") [] 5 ∷ []; line = 5 } ∷ [];
+}
+
+-- the events are possible, each after those before it
+abbrev can : List PlainEvent → Bool
+can events = is_some (plain (rules_of napping) (first_of_program napping) events)
+
 one : decimal 1 ≡ codes "1"
 one = decimal-digits_of 1 (omega arith) (omega arith)
 
 hello : written_for (plain (rules_of greeting) (first_of_program greeting) (plain_event.Turn 1 4 0 ∷ [])) ≡ codes "1: hi" ++ 10 ∷ []
 unfolding out-Expr out-Stmt Carrier.out
 hello = ap (λ digits. ((digits ++ codes ": " ++ codes "hi") ++ 10 ∷ []) ++ []) one
+
+-- three steps until it sleeps, a tick at its limit, and four steps
+nap : can (plain_event.Turn 1 3 0 ∷ plain_event.Tick 1 100 ∷ plain_event.Turn 1 4 100 ∷ []) ≡ true
+unfolding out-Expr out-Stmt Carrier.out
+nap = refl
+
+-- no fourth step before it has slept, no tick before its limit, no turn while the limit is due, and no second tick
+four : can (plain_event.Turn 1 4 0 ∷ []) ≡ false
+unfolding out-Expr out-Stmt Carrier.out
+four = refl
+
+early : can (plain_event.Turn 1 3 0 ∷ plain_event.Tick 1 99 ∷ []) ≡ false
+unfolding out-Expr out-Stmt Carrier.out
+early = refl
+
+due : can (plain_event.Turn 1 3 0 ∷ plain_event.Turn 1 1 100 ∷ []) ≡ false
+unfolding out-Expr out-Stmt Carrier.out
+due = refl
+
+twice : can (plain_event.Turn 1 3 0 ∷ plain_event.Tick 1 100 ∷ plain_event.Tick 1 100 ∷ []) ≡ false
+unfolding out-Expr out-Stmt Carrier.out
+twice = refl

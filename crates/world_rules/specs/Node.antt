@@ -1,5 +1,5 @@
 -- What a node keeps, when it can take steps, and what they do.
-use Rattle.std.specs.Prelude.{ℕ, zero, suc, ◌+◌, nat_abs, Bool, true, false, not, ◌&&◌, if◌then◌else◌, ◌==◌, nat_le, List, [], ◌∷◌, Option, Some, None, is_some}
+use Rattle.std.specs.Prelude.{ℕ, zero, suc, ◌+◌, nat_abs, Bool, true, false, not, ◌&&◌, if◌then◌else◌, ◌==◌, nat_le, List, [], ◌∷◌, length, Option, Some, None, is_none, is_some}
 use Rattle.std.specs.List.{filter, list_any}
 use Rattle.std.specs.Str.{bytes_eq}
 use Rattle.clu_tree.specs.declared.value.Value.{Value}
@@ -114,17 +114,29 @@ expired (owner.Process n) s = (record s { processes = woken n s.processes }, rec
 expired call s = (s, record nothing { marks = mark.Expired call ∷ [] })
 
 -- the node after what it did first and what it did then, with the effects of both
-abbrev pub then : NodeState × Effects → (NodeState → NodeState × Effects) → NodeState × Effects
-then a next = ((next a.0).0, join a.1 (next a.0).1)
+abbrev pub joined : NodeState × Effects → (NodeState → NodeState × Effects) → NodeState × Effects
+joined a next = ((next a.0).0, join a.1 (next a.0).1)
 
 -- these limits expire one after the other
 abbrev pub expire : List Limit → NodeState → NodeState × Effects
 expire [] s = (s, nothing)
-expire (l ∷ ls) s = then (expired l.1 s) (expire ls)
+expire (l ∷ ls) s = joined (expired l.1 s) (expire ls)
 
 -- the node advances to t: its time is t, and all limits at or before t expire in their order
 abbrev pub advance : NodeState → ℕ → NodeState × Effects
 advance s t = expire (expiring s t) (record s { time = t })
+
+-- a tick: some limit is at or before t, and the node advances to it
+abbrev pub tick : NodeState → ℕ → Option (NodeState × Effects)
+tick s t = if nat_le s.time t && due s t then Some (advance s t) else None
+
+-- a packet reaches the node at t; no routine is exported in this part of the language, so it does nothing but advance it
+abbrev pub deliver : NodeState → List ℕ → ℕ → Option (NodeState × Effects)
+deliver s bytes t = if nat_le s.time t then Some (advance s t) else None
+
+-- no process is ready, and no limit stands
+abbrev pub is_quiet : NodeState → Bool
+is_quiet s = is_none (picks s) && (length (limits s.processes) == 0)
 
 -- ---- steps
 
@@ -193,12 +205,11 @@ stands (f ∷ fs) = begun_by f.work
 abbrev pub line_at : ℕ → NodeState → Option ℕ
 line_at p s = and_then (ready_frames p s.processes) stands
 
--- No routine is exported in this part of the language: so a packet does nothing but advance the node to its time.
 abbrev pub rules_of : Program → Rules NodeState
 rules_of program = record {
   turn = turn program;
-  deliver = λ s bytes t. if nat_le s.time t then Some (advance s t) else None;
-  tick = λ s t. if nat_le s.time t && due s t then Some (advance s t) else None;
+  deliver = deliver;
+  tick = tick;
   time = λ s. s.time;
   due = due;
   ready = λ s. is_some (picks s);
