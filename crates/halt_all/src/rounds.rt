@@ -1,8 +1,9 @@
 ghost use Rattle.std.specs.Prelude.{◌≡◌, ◌↔◌, ℕ, ◌≤◌, [], Some, None, IsTrue, IsSome, IsNone, IfOk, OnOk, OnErr};
 ghost use Rattle.std.specs.FinSet as set;
 
+use crate::memory::Memory;
 use crate::round::Round;
-use std::alloc::{AllocError, Global};
+use std::alloc::Global;
 use std::marker::Model;
 
 /// Which nodes are halted, and the rounds that have opened and closed.
@@ -27,7 +28,7 @@ impl Rounds {
     ghost use Rattle.halt_all.specs.Rounds.{opened, closed, opening_of};
 
     /// Nodes 1 to `nodes` run, and there was no round.
-    pub fn new(alloc: Global, nodes: u32) -> Result<Rounds, AllocError>
+    pub fn new(alloc: Global, nodes: u32) -> Result<Rounds, Memory>
         ensures { IfOk result (λ rounds. rounds ≡ record { nodes = nodes; halted = set.empty; rounds = [] }) }
     {
         Ok(Rounds {
@@ -37,7 +38,7 @@ impl Rounds {
     }
 
     /// A round opens at the stamp `a`. None is open before. For want of memory all stays as it was.
-    pub fn start(&mut self, a: u64) -> Result<(), AllocError>
+    pub fn start(&mut self, alloc: Global, a: u64) -> Result<(), Memory>
         requires { IsNone (opening_of self.old.rounds) }
         ensures ok { OnOk result (self.new ≡ record self.old { rounds = opened a self.old.rounds }) }
         ensures err { OnErr result (self.new ≡ self.old) }
