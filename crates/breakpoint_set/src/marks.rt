@@ -5,6 +5,9 @@ use std::alloc::{AllocError, Global};
 use std::collections::BTreeSet;
 use std::marker::Model;
 
+/// Memory ran out.
+pub type Memory = AllocError;
+
 /// A set of lines, by number.
 #[derive(Drop)]
 pub struct Marks {
@@ -25,7 +28,7 @@ impl Model for Marks {
 
 impl Marks {
     /// No line is marked.
-    pub fn new(alloc: Global) -> Result<Marks, AllocError>
+    pub fn new(alloc: Global) -> Result<Marks, Memory>
         ensures { IfOk result (λ marks. marks ≡ set.empty) }
     {
         Ok(Marks {
@@ -34,7 +37,7 @@ impl Marks {
     }
 
     /// Marks the line. For want of memory the set stays as it was.
-    pub fn set(&mut self, line: u32) -> Result<(), AllocError>
+    pub fn set(&mut self, alloc: Global, line: u32) -> Result<(), Memory>
         ensures ok { OnOk result (self.new ≡ set.insert self.old line) }
         ensures err { OnErr result (self.new ≡ self.old) }
     {

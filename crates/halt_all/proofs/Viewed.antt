@@ -1,7 +1,7 @@
 -- What the change of a flag, or of the last round, changes of what is said.
-use Rattle.std.proofs.Common.{◌≡◌, ℕ, ◌+◌, ◌-◌, ◌<◌, ◌≤◌, Bool, true, false, List, [], ◌∷◌, length, set, get_or, reverse, Some, IsSome, refl, ap, ◌∙◌, arith, length-set}
+use Rattle.std.proofs.Common.{◌≡◌, ℕ, ◌+◌, ◌-◌, ◌≤◌, Bool, true, false, List, length, set, get_or, reverse, Some, IsSome, refl, ap, ◌∙◌, arith, length-set}
 use Rattle.std.specs.FinSet.{insert, remove}
-use Rattle.halt_all.specs.Rounds.{Round, closed, opening_of}
+use Rattle.world_types.specs.Rounds.{Round, closed, opening}
 use Rattle.halt_all.specs.Halting.{Halting, flagged, halting_of}
 use Rattle.halt_all.proofs.Flags.{flagged_raised, flagged_lowered}
 use Rattle.halt_all.proofs.Newest.{reverse-closed}
@@ -22,13 +22,9 @@ lowered flags rounds node said is first last =
     let runs : flagged 1 (set flags (node - 1) false) ≡ remove (flagged 1 flags) node = flagged_lowered 1 (node - 1) flags (omega arith) ∙ ap (λ n. remove (flagged 1 flags) n) place in
     rw (← is, runs, length-set) refl
 
-some_round : (rounds : List Round) → IsSome (opening_of (reverse rounds)) → 0 < length rounds
-some_round [] is_open = cc
-some_round (r ∷ rounds) is_open = omega arith
-
-pub closed_last : (flags : List Bool) (rounds : List Round) (old : Round) (i b : ℕ) (said : Halting) → halting_of flags rounds ≡ said → IsSome (opening_of said.rounds) → i ≡ length rounds - 1 → old ≡ get_or rounds i old →
+pub closed_last : (flags : List Bool) (rounds : List Round) (old : Round) (i b : ℕ) (said : Halting) → halting_of flags rounds ≡ said → IsSome (opening said.rounds) → i ≡ length rounds - 1 → old ≡ get_or rounds i old →
     halting_of flags (set rounds i (record { opens = old.opens; closes = Some b })) ≡ record said { rounds = closed b said.rounds }
 closed_last flags rounds old i b said is is_open at last =
-    let opens : IsSome (opening_of (reverse rounds)) = rw (← is) at is_open in
-    let closes : reverse (set rounds i (record { opens = old.opens; closes = Some b })) ≡ closed b (reverse rounds) = reverse-closed rounds old i b at (some_round rounds opens) last in
+    let opens : IsSome (opening (reverse rounds)) = rw (← is) at is_open in
+    let closes : reverse (set rounds i (record { opens = old.opens; closes = Some b })) ≡ closed b (reverse rounds) = reverse-closed rounds old i b opens at last in
     rw (← is, closes) refl

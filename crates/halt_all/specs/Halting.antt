@@ -3,7 +3,7 @@ use Rattle.std.specs.Prelude.{ℕ, suc, List, [], ◌∷◌, reverse, length, Bo
 use Rattle.std.specs.Coded.{Coded, code_by, coded×, coded_ℕ, coded_list, coded_option}
 use Rattle.std.specs.Ordering.{nat_cmp}
 use Rattle.std.specs.FinSet as set
-use Rattle.halt_all.specs.Rounds.{Round}
+use Rattle.world_types.specs.Rounds.{Round}
 
 -- how many nodes there are, which of them are halted, and the rounds, the newest first
 pub record Halting : Type 0 where

@@ -1,6 +1,7 @@
 ghost use Rattle.std.specs.Prelude.{◌≡◌, [], ◌∷◌, ◌++◌, IfOk, OnOk, OnErr};
 
-use std::alloc::{AllocError, Global};
+use crate::memory::Memory;
+use std::alloc::Global;
 use std::marker::Model;
 use std::mem;
 
@@ -20,7 +21,7 @@ impl Model for Held {
 
 impl Held {
     /// No packet is held.
-    pub fn new(alloc: Global) -> Result<Held, AllocError>
+    pub fn new(alloc: Global) -> Result<Held, Memory>
         ensures { IfOk result (λ held. held ≡ []) }
     {
         Ok(Held {
@@ -29,7 +30,7 @@ impl Held {
     }
 
     /// Holds one packet more, behind the others. For want of memory the list stays as it was.
-    pub fn push(&mut self, from: u32, index: u64) -> Result<(), AllocError>
+    pub fn push(&mut self, alloc: Global, from: u32, index: u64) -> Result<(), Memory>
         ensures ok { OnOk result (self.new ≡ self.old ++ (from, index) ∷ []) }
         ensures err { OnErr result (self.new ≡ self.old) }
     {

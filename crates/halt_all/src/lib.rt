@@ -2,8 +2,10 @@
 #![tactic(auto)]
 
 mod held;
+mod memory;
 mod round;
 mod rounds;
 
 pub use held::Held;
+pub use memory::Memory;
 pub use rounds::Rounds;

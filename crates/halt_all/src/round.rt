@@ -10,7 +10,7 @@ pub struct Round {
 }
 
 impl Model for Round {
-    ghost use Rattle.halt_all.specs.Rounds as said;
+    ghost use Rattle.world_types.specs.Rounds as said;
 
     ghost Value = { said.Round };
 
@@ -18,7 +18,7 @@ impl Model for Round {
 }
 
 impl Round {
-    ghost use Rattle.halt_all.specs.Rounds.{begun};
+    ghost use Rattle.world_types.specs.Rounds.{opening_of};
 
     /// A round that opens at this stamp.
     pub fn open_at(a: u64) -> Round
@@ -32,7 +32,7 @@ impl Round {
 
     /// The stamp at which it opened, if it is still open.
     pub fn begun_at(&self) -> Option<u64>
-        ensures { result ≡ begun self.now }
+        ensures { result ≡ opening_of self.now.opens self.now.closes }
     {
         match self.closes {
             None => Some(self.opens),

@@ -1,8 +1,9 @@
 ghost use Rattle.std.specs.Prelude.{◌≡◌, ◌↔◌, ℕ, ◌≤◌, [], Some, None, IsTrue, IsSome, IsNone, IfOk, OnOk, OnErr};
 ghost use Rattle.std.specs.FinSet as set;
 
+use crate::memory::Memory;
 use crate::round::Round;
-use std::alloc::{AllocError, Global};
+use std::alloc::Global;
 use std::marker::Model;
 
 /// Which nodes are halted, and the rounds that have opened and closed.
@@ -24,10 +25,10 @@ impl Model for Rounds {
 }
 
 impl Rounds {
-    ghost use Rattle.halt_all.specs.Rounds.{opened, closed, opening_of};
+    ghost use Rattle.world_types.specs.Rounds.{opened, closed, opening};
 
     /// Nodes 1 to `nodes` run, and there was no round.
-    pub fn new(alloc: Global, nodes: u32) -> Result<Rounds, AllocError>
+    pub fn new(alloc: Global, nodes: u32) -> Result<Rounds, Memory>
         ensures { IfOk result (λ rounds. rounds ≡ record { nodes = nodes; halted = set.empty; rounds = [] }) }
     {
         Ok(Rounds {
@@ -37,8 +38,8 @@ impl Rounds {
     }
 
     /// A round opens at the stamp `a`. None is open before. For want of memory all stays as it was.
-    pub fn start(&mut self, a: u64) -> Result<(), AllocError>
-        requires { IsNone (opening_of self.old.rounds) }
+    pub fn start(&mut self, alloc: Global, a: u64) -> Result<(), Memory>
+        requires { IsNone (opening self.old.rounds) }
         ensures ok { OnOk result (self.new ≡ record self.old { rounds = opened a self.old.rounds }) }
         ensures err { OnErr result (self.new ≡ self.old) }
     {
@@ -49,7 +50,7 @@ impl Rounds {
     /// The node halts. Nodes are numbered from 1, and a round is open.
     pub fn halted(&mut self, node: u32)
         requires is_node { (1 ≤ node) × (node ≤ self.old.nodes) }
-        requires one_open { IsSome (opening_of self.old.rounds) }
+        requires one_open { IsSome (opening self.old.rounds) }
         ensures { self.new ≡ record self.old { halted = set.insert self.old.halted node } }
     {
         self.halted[node as usize - 1] = true;
@@ -58,7 +59,7 @@ impl Rounds {
     /// The node goes on. Nodes are numbered from 1, and no round is open.
     pub fn resumed(&mut self, node: u32)
         requires is_node { (1 ≤ node) × (node ≤ self.old.nodes) }
-        requires none_open { IsNone (opening_of self.old.rounds) }
+        requires none_open { IsNone (opening self.old.rounds) }
         ensures { self.new ≡ record self.old { halted = set.remove self.old.halted node } }
     {
         self.halted[node as usize - 1] = false;
@@ -73,7 +74,7 @@ impl Rounds {
 
     /// The open round closes at the stamp `b`.
     pub fn finish(&mut self, b: u64)
-        requires { IsSome (opening_of self.old.rounds) }
+        requires { IsSome (opening self.old.rounds) }
         ensures { self.new ≡ record self.old { rounds = closed b self.old.rounds } }
     {
         let newest = self.rounds.len() - 1;
@@ -82,7 +83,7 @@ impl Rounds {
 
     /// The stamp at which the open round opened, or `None` where no round is open.
     pub fn begun_at(&self) -> Option<u64>
-        ensures { result ≡ opening_of self.now.rounds }
+        ensures { result ≡ opening self.now.rounds }
     {
         self.rounds.last()?.begun_at()
     }

@@ -1,5 +1,5 @@
 ghost use Rattle.std.specs.Prelude.{◌≡◌, ℕ, ◌+◌, ◌-◌, ◌≤◌, List, [], Option, Some, None, IsSome, IsNone, IfSome, unwrap_or};
-ghost use Rattle.logical_clock.specs.Rounds.{Round, opened, closed, cut};
+ghost use Rattle.world_types.specs.Rounds.{Round, opened, closed, cut};
 
 use std::marker::Model;
 

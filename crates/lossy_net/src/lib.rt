@@ -6,4 +6,4 @@ mod draw;
 mod net;
 
 pub use draw::fate;
-pub use net::Net;
+pub use net::{Memory, Net};

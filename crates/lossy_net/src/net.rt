@@ -4,6 +4,9 @@ use crate::copies::{Copies, place};
 use std::alloc::{AllocError, Global};
 use std::marker::Model;
 
+/// Memory ran out.
+pub type Memory = AllocError;
+
 /// The copies of packets that are still on their way.
 #[derive(Debug, Drop)]
 pub struct Net {
@@ -27,7 +30,7 @@ impl Net {
     ghost use Rattle.lossy_net.specs.Copies.{copies_left, IsFirst, ChangesOnly};
 
     /// Nothing is on its way.
-    pub fn new(alloc: Global) -> Result<Net, AllocError>
+    pub fn new(alloc: Global) -> Result<Net, Memory>
         ensures { IfOk result (λ net. (to from index : ℕ) → copies_left net to from index ≡ 0) }
     {
         Ok(Net {
@@ -37,7 +40,14 @@ impl Net {
 
     /// So many copies of the packet that `from` sent at the place `index` are on their way to the node `to`. None was
     /// left before. For want of memory all stays as it was.
-    pub fn sent(&mut self, to: u32, from: u32, index: u64, copies: u8) -> Result<(), AllocError>
+    pub fn sent(
+        &mut self,
+        alloc: Global,
+        to: u32,
+        from: u32,
+        index: u64,
+        copies: u8,
+    ) -> Result<(), Memory>
         requires { copies_left self.old to from index ≡ 0 }
         ensures ok { OnOk result (ChangesOnly self.old self.new to from index copies) }
         ensures err { OnErr result (self.new ≡ self.old) }

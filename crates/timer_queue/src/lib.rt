@@ -5,5 +5,5 @@ mod queue;
 #[cfg(test)]
 mod tests;
 
-pub use queue::TimerQueue;
+pub use queue::{Memory, TimerQueue};
 pub use world_types::Owner;

@@ -8,6 +8,9 @@ use std::alloc::{AllocError, Global};
 use std::marker::Model;
 use world_types::Owner;
 
+/// Memory ran out.
+pub type Memory = AllocError;
+
 /// Time limits in ms, each with its owner, in the order in which they expire: by time, then processes before
 /// once-calls before maybe-calls, then by number. An owner has one limit at most.
 #[derive(Debug, Drop)]
@@ -28,7 +31,7 @@ impl Model for TimerQueue {
 
 impl TimerQueue {
     /// A queue without limits.
-    pub fn new(alloc: Global) -> Result<TimerQueue, AllocError>
+    pub fn new(alloc: Global) -> Result<TimerQueue, Memory>
         ensures empty { IfOk result (λ q. q ≡ []) }
         ensures queue { IfOk result IsQueue }
     {
@@ -38,7 +41,7 @@ impl TimerQueue {
     }
 
     /// Adds the limit of an owner that has none. Without memory the queue stays as it was.
-    pub fn add(&mut self, limit: u64, owner: Owner) -> Result<(), AllocError>
+    pub fn add(&mut self, alloc: Global, limit: u64, owner: Owner) -> Result<(), Memory>
         requires { limit_of self.old owner ≡ None }
         ensures ok { OnOk result (self.new ≡ with_limit self.old (limit, owner)) }
         ensures limits { OnOk result (ChangesOnly self.old self.new owner (Some limit)) }

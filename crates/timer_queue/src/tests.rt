@@ -12,11 +12,12 @@ fn limits_expire_in_order(rt: HostRuntime) -> Result<(), Fail> {
         (100, Owner::Process(3)),
         (101, Owner::Process(2)),
     ];
-    let mut queue = TimerQueue::new(rt.alloc())?;
+    let alloc = rt.alloc();
+    let mut queue = TimerQueue::new(alloc)?;
     assert_eq!(rt; queue.first(), None);
     for (limit, owner) in added {
         if queue.limit(owner).is_none() {
-            queue.add(limit, owner)?;
+            queue.add(alloc, limit, owner)?;
         }
     }
     assert_eq!(rt; queue.limit(Owner::Process(3)), Some(100));

@@ -1,50 +1,17 @@
--- Clocks that keep a total and an opening read the cut, and a clock that lags reads it where a node needs it.
-use Rattle.std.proofs.Common.{◌≡◌, ℕ, zero, suc, ◌+◌, ◌-◌, ◌≤◌, min, Bool, true, false, not, inl, inr, List, [], ◌∷◌, ◌==◌, length, Option, Some, None, refl, sym, ap, arith}
+-- A clock that lags reads the cut where a node needs it.
+use Rattle.std.proofs.Common.{◌≡◌, ℕ, zero, suc, ◌≤◌, Bool, true, false, not, inl, inr, List, [], ◌∷◌, ◌==◌, length, Option, Some, None, refl, sym, ap, arith}
 use Rattle.std.proofs.lemmas.Bool.{eqb-true, cases_lt}
+use Rattle.world_types.specs.Rounds.{Round, is_open, opened, closed, closed_at, cut, read_by, EndsBy, Ordered, ClosedBy}
 use Rattle.world_types.specs.declared.event.Event.{Event}
 use Rattle.world_types.specs.declared.event.Event.TheVariants.{Turn, Packet, Tick, Stop, Halt, Resume, Ask, Answer, Set, Clear, HaltAll, ResumeAll}
 use Rattle.world_types.specs.declared.event.Told.{Told}
+use Rattle.world_types.proofs.Clocks.{all_over-closed}
+use Rattle.world_types.proofs.Cuts.{all_over}
 use Rattle.world_rules.specs.Plain.{Rules, World}
-use Rattle.world_rules.specs.Said.{halted, all_halted, last_of, Round, is_open, opened, closed, closed_at, rounds, end_at, halted_time, cut, read_by}
+use Rattle.world_rules.specs.Said.{halted, all_halted, last_of, rounds}
 use Rattle.world_rules.specs.Legal.{tests}
-use Rattle.world_rules.specs.Clock.{length_of, total, opening_of, opening, clock_reads, EndsBy, IsOver, AllOver, Ordered, ClosedBy, Behind, Lacks, KnowsBy, Knows}
-use Rattle.world_rules.proofs.Cuts.{all_over}
+use Rattle.world_rules.specs.Clock.{Behind, Lacks, KnowsBy, Knows}
 use Rattle.world_rules.proofs.Following.{by_test, AllPass, and_left, and_right, le_true}
-
--- ---- a total and an opening are enough
-
-over_by : (o : Option ℕ) (a t : ℕ) → IsOver o a → a ≤ t → EndsBy t o
-over_by None a t h l = tt
-over_by (Some b) a t h l = omega (arith, h)
-
-all_over-closed : (rs : List Round) (a t : ℕ) → AllOver rs a → a ≤ t → ClosedBy t rs
-all_over-closed [] a t h l = tt
-all_over-closed (r ∷ rs) a t h l = (over_by r.closes a t h.1 l, all_over-closed rs r.opens t h.2 (omega (arith, h.0)))
-
-ends_by : (o : Option ℕ) (s t : ℕ) → EndsBy s o → s ≤ t → EndsBy t o
-ends_by None s t h l = tt
-ends_by (Some b) s t h l = omega (arith, h)
-
--- no closing is after a stamp that isn't below the last
-pub ordered-closed : (rs : List Round) (s t : ℕ) → Ordered rs s → s ≤ t → ClosedBy t rs
-ordered-closed [] s t h l = tt
-ordered-closed (r ∷ rs) s t h l = (ends_by r.closes s t h.1 l, all_over-closed rs r.opens t h.2 (omega (arith, h.0)))
-
-over_length : (r : Round) (o : Option ℕ) (a t : ℕ) → IsOver o a → EndsBy t o → end_at o t - r.opens ≡ length_of r o
-over_length r None a t h c = elim h [ ]
-over_length r (Some b) a t h c = let e : min b t ≡ b = omega (arith, c) in rw e refl
-
-over_total : (rs : List Round) (a t : ℕ) → AllOver rs a → ClosedBy t rs → halted_time rs t ≡ total rs
-over_total [] a t h c = refl
-over_total (r ∷ rs) a t h c = rw (over_length r r.closes a t h.1 c.0, over_total rs r.opens t h.2 c.1) refl
-
-head_reads : (r : Round) (o : Option ℕ) (t sum : ℕ) → EndsBy t o → t - ((end_at o t - r.opens) + sum) ≡ clock_reads (length_of r o + sum) (opening_of r.opens o) t
-head_reads r None t sum c = omega arith
-head_reads r (Some b) t sum c = omega (arith, c)
-
-pub reads_cut : (rs : List Round) (s t : ℕ) → Ordered rs s → ClosedBy t rs → clock_reads (total rs) (opening rs) t ≡ cut rs t
-reads_cut [] s t h c = omega arith
-reads_cut (r ∷ rs) s t h c = rw (over_total rs r.opens t h.2 c.1) (sym (head_reads r r.closes t (total rs) c.0))
 
 -- ---- a running node's last stamp is after all closings
 

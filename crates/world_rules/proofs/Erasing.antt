@@ -1,13 +1,15 @@
 -- The laws of erasing.
-use Rattle.std.proofs.Common.{◌≡◌, ℕ, ◌+◌, ◌-◌, ◌≤◌, Bool, true, false, List, [], ◌∷◌, ◌++◌, reverse, if◌then◌else◌, ◌==◌, Option, Some, None, refl, sym, ◌∙◌, ap, arith, append_assoc}
+use Rattle.std.proofs.Common.{◌≡◌, ℕ, ◌≤◌, Bool, true, false, List, [], ◌∷◌, ◌++◌, reverse, if◌then◌else◌, ◌==◌, Option, Some, None, refl, sym, ◌∙◌, ap, arith, append_assoc}
 use Rattle.std.proofs.lemmas.List.{reverse-append}
+use Rattle.world_types.specs.Rounds.{Round, cut}
 use Rattle.world_types.specs.declared.event.Event.{Event}
 use Rattle.world_types.specs.declared.event.Event.TheVariants.{Turn, Packet, Tick, Stop, Resume, HaltAll, ResumeAll}
 use Rattle.world_types.specs.declared.event.Told.{Told}
 use Rattle.world_types.specs.declared.effects.Effects.{Effects}
 use Rattle.world_types.specs.declared.event.PlainEvent.{PlainEvent}
+use Rattle.world_types.proofs.Cuts.{cut-opened, cut-closed}
 use Rattle.world_rules.specs.Plain.{Rules, World, and_then, step, behind, plain, join, nothing}
-use Rattle.world_rules.specs.Said.{node_of, halted, halted_by, Round, is_open, opened, closed_at, closed, rounds_by, rounds, end_at, halted_time, cut, held, resumed, items_by, items, erased, erase, plainly_at, plain_events}
+use Rattle.world_rules.specs.Said.{node_of, halted, halted_by, rounds_by, rounds, held, resumed, items_by, items, erased, erase, plainly_at, plain_events}
 use Rattle.world_rules.specs.Legal.{ReadsBy, InTime, IsPlainEvent, ArePlain}
 
 by_test : {P : Type 0} (b : Bool) → (b ≡ true → P) → (b ≡ false → P) → P
@@ -16,25 +18,14 @@ by_test false h k = k refl
 
 -- ---- a later event doesn't change the cut at an earlier stamp
 
-end-closed : (o : Option ℕ) (s t : ℕ) → t ≤ s → end_at (closed_at o s) t ≡ end_at o t
-end-closed None s t h = omega arith
-end-closed (Some b) s t h = refl
-
-time-opened : (s t : ℕ) (rs : List Round) → t ≤ s → halted_time (opened s rs) t ≡ halted_time rs t
-time-opened s t rs h = by_test (is_open rs) (λ e. rw e refl) (λ e. rw e (omega arith))
-
-time-closed : (s t : ℕ) (rs : List Round) → t ≤ s → halted_time (closed s rs) t ≡ halted_time rs t
-time-closed s t [] h = refl
-time-closed s t (r ∷ rs) h = ap (λ (n : ℕ). (n - r.opens) + halted_time rs t) (end-closed r.closes s t h)
-
-time-later : (s t : ℕ) (e : Event) (rs : List Round) → t ≤ s → halted_time (rounds_by s e rs) t ≡ halted_time rs t
-time-later s t (Stop n) rs h = time-opened s t rs h
-time-later s t HaltAll rs h = time-opened s t rs h
-time-later s t (ResumeAll u) rs h = time-closed s t rs h
-time-later s t e rs h = refl
+cut-by : (s t : ℕ) (e : Event) (rs : List Round) → t ≤ s → cut (rounds_by s e rs) t ≡ cut rs t
+cut-by s t (Stop n) rs h = cut-opened s t rs h
+cut-by s t HaltAll rs h = cut-opened s t rs h
+cut-by s t (ResumeAll u) rs h = cut-closed s t rs h
+cut-by s t e rs h = refl
 
 pub cut-later : (past : List Told) (e : Told) (t : ℕ) → t ≤ e.stamp → cut (rounds (e ∷ past)) t ≡ cut (rounds past) t
-cut-later past e t h = ap (λ (n : ℕ). t - n) (time-later e.stamp t e.event (rounds past) h)
+cut-later past e t h = cut-by e.stamp t e.event (rounds past) h
 
 -- ---- erasing by cuts that agree
 

@@ -7,7 +7,8 @@ use Rattle.world_rules.specs.Said.{rounds, cut, erase, last_stamp}
 use Rattle.world_rules.specs.Legal.{InTime, tolds}
 use Rattle.world_rules.specs.Node.{IsLegal, first_of_program, rules_of}
 use Rattle.world_rules.specs.Laws.{CutLaws, ErasingLaws, past_of}
-use Rattle.world_rules.proofs.Cuts.{cut_mono, rounds_ordered}
+use Rattle.world_types.proofs.Cuts.{cut_mono}
+use Rattle.world_rules.proofs.Cuts.{rounds_ordered}
 use Rattle.world_rules.proofs.Erasing.{cut-later, erase-plain, plain_erased, snoc}
 use Rattle.world_rules.proofs.Following.{in_time, in_time_more, same_effects, tolds-reverse}
 use Rattle.world_rules.proofs.Lawfully.{lawful}

@@ -14,7 +14,8 @@ use Rattle.world_rules.specs.Plain.{Rules, Lawful, World, and_then, node_at, pac
 use Rattle.world_rules.specs.Said.{node_of, halted, last_by, last_of, last_stamp, Round, rounds, cut, read_by, goal, goal_by, marked, marked_by, has_quit, quits, held, resumed, erased, items, items_by, plain_events, plainly_at}
 use Rattle.world_rules.specs.Legal.{test, tests, all_tests, first_failing, is_node, reached, passed, blocked, unmarked, most, settled, shown_by, enter, told, tolds, bare, Follows, LegalPast, Legal, IsPlainEvent, ArePlain, InTime, ErasesLegally}
 use Rattle.world_rules.proofs.Erasing.{if-same, halted-plain, rounds-plain, cut-plain, erased-plain, erased-more, cut-later, plain_reverse, plain_erased, reverse-twice}
-use Rattle.world_rules.proofs.Cuts.{cut_mono, rounds_ordered}
+use Rattle.world_types.proofs.Cuts.{cut_mono}
+use Rattle.world_rules.proofs.Cuts.{rounds_ordered}
 use Rattle.world_rules.proofs.Following.{by_test, AllPass, none_fails, and_left, and_right, le_true, meets_all, in_time, in_time_more, reached_more, showed, tolds-reverse}
 
 -- ---- what a list without the debugger says

@@ -14,7 +14,8 @@ use Rattle.world_rules.specs.Plain.{Rules, Lawful, World, Fresh, and_then, node_
 use Rattle.world_rules.specs.Said.{node_of, halted, last_of, last_stamp, rounds, cut, held, resumed, items, items_by, plain_events}
 use Rattle.world_rules.specs.Legal.{InTime, tests, first_failing, test, is_node, due_at, ready_at, reached, passed, allowed, unmarked, most, showing, shown_by, enter, told, tolds, Follows, LegalPast}
 use Rattle.world_rules.specs.Clock.{ClosedBy}
-use Rattle.world_rules.proofs.Cuts.{cut_mono, rounds_ordered}
+use Rattle.world_types.proofs.Cuts.{cut_mono}
+use Rattle.world_rules.proofs.Cuts.{rounds_ordered}
 use Rattle.world_rules.proofs.Erasing.{cut-later}
 use Rattle.world_rules.proofs.Following.{by_test, AllPass, meets_all, in_time, in_time_more, showed, reached_more}
 use Rattle.world_rules.proofs.Plainly.{and_then_some, last_below, stays, last_stays, last_goes, no_items}

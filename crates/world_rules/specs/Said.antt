@@ -1,11 +1,12 @@
 -- What a list of events says at a position, read off the events before it, the newest first.
-use Rattle.std.specs.Prelude.{ℕ, zero, suc, ◌+◌, ◌-◌, min, Bool, true, false, not, ◌&&◌, ◌||◌, if◌then◌else◌, nat_le, nat_lt, ◌==◌, List, [], ◌∷◌, ◌++◌, reverse, Option, Some, None, is_none}
+use Rattle.std.specs.Prelude.{ℕ, zero, suc, ◌+◌, Bool, true, false, not, ◌&&◌, ◌||◌, if◌then◌else◌, nat_lt, ◌==◌, List, [], ◌∷◌, ◌++◌, reverse, Option, Some, None, is_none}
 use Rattle.world_types.specs.declared.event.Event.{Event}
 use Rattle.world_types.specs.declared.event.Event.TheVariants.{Turn, Packet, Tick, Stop, Halt, Resume, Ask, Answer, Set, Clear, HaltAll, ResumeAll, Quit}
 use Rattle.world_types.specs.declared.event.Question.{Question}
 use Rattle.world_types.specs.declared.event.Told.{Told}
 use Rattle.world_types.specs.declared.event.PlainEvent.{PlainEvent}
 use Rattle.world_types.specs.declared.event.PlainEvent.TheVariants as plainly
+pub use Rattle.world_types.specs.Rounds.{Round, is_open, opened, closed, cut, read_by}
 
 -- ---- the node of an event, 0 where it has none
 
@@ -56,26 +57,7 @@ abbrev pub last_stamp : List Told → ℕ
 last_stamp [] = 0
 last_stamp (e ∷ past) = e.stamp
 
--- ---- rounds and the cut
-
-pub record Round : Type 0 where
-  pub opens : ℕ
-  pub closes : Option ℕ
-
-abbrev pub is_open : List Round → Bool
-is_open [] = false
-is_open (r ∷ rs) = is_none r.closes
-
-abbrev pub opened : ℕ → List Round → List Round
-opened a rs = if is_open rs then rs else record { opens = a; closes = None } ∷ rs
-
-abbrev pub closed_at : Option ℕ → ℕ → Option ℕ
-closed_at None b = Some b
-closed_at (Some c) b = Some c
-
-abbrev pub closed : ℕ → List Round → List Round
-closed b [] = []
-closed b (r ∷ rs) = record { opens = r.opens; closes = closed_at r.closes b } ∷ rs
+-- ---- rounds
 
 abbrev pub rounds_by : ℕ → Event → List Round → List Round
 rounds_by s (Stop n) rs = opened s rs
@@ -87,23 +69,6 @@ rounds_by s e rs = rs
 abbrev pub rounds : List Told → List Round
 rounds [] = []
 rounds (e ∷ past) = rounds_by e.stamp e.event (rounds past)
-
-abbrev pub end_at : Option ℕ → ℕ → ℕ
-end_at None t = t
-end_at (Some b) t = min b t
-
--- the part of the rounds that lies before t: 0 for a round that opens at t or later
-abbrev pub halted_time : List Round → ℕ → ℕ
-halted_time [] t = 0
-halted_time (r ∷ rs) t = (end_at r.closes t - r.opens) + halted_time rs t
-
-abbrev pub cut : List Round → ℕ → ℕ
-cut rs t = t - halted_time rs t
-
--- the reading isn't above the opening of the open round
-abbrev pub read_by : List Round → ℕ → Bool
-read_by [] r = true
-read_by (x ∷ rs) r = if is_none x.closes then nat_le r x.opens else true
 
 -- ---- the goal
 

@@ -10,7 +10,8 @@ enum Edit {
 /// Each edit, and the lines that are marked after it.
 #[test]
 fn marks_the_lines_that_were_set_last(rt: HostRuntime) -> Result<(), Fail> {
-    let mut marks = Marks::new(rt.alloc())?;
+    let alloc = rt.alloc();
+    let mut marks = Marks::new(alloc)?;
     assert!(rt; !marks.marked(3), "nothing is marked at first");
     for (edit, lines) in [
         (Edit::Set(3), [3].as_slice()),
@@ -24,7 +25,7 @@ fn marks_the_lines_that_were_set_last(rt: HostRuntime) -> Result<(), Fail> {
         (Edit::Clear(1), [3, 1_048_576].as_slice()),
     ] {
         match edit {
-            Edit::Set(line) => marks.set(line)?,
+            Edit::Set(line) => marks.set(alloc, line)?,
             Edit::Clear(line) => marks.clear(line),
         }
         for line in [0, 1, 2, 3, 4, 1_048_576, u32::MAX] {

@@ -4,7 +4,8 @@ use std::test::Fail;
 /// Packets in the order in which they reached the node, copies among them, and twice the same as they are handed out.
 #[test]
 fn hands_out_all_packets_in_order_once(rt: HostRuntime) -> Result<(), Fail> {
-    let mut held = Held::new(rt.alloc())?;
+    let alloc = rt.alloc();
+    let mut held = Held::new(alloc)?;
     assert!(rt; held.take_all().is_empty(), "nothing is held at first");
     for packets in [
         [(1, 1), (1, 1)].as_slice(),
@@ -19,7 +20,7 @@ fn hands_out_all_packets_in_order_once(rt: HostRuntime) -> Result<(), Fail> {
         [(3, 1)].as_slice(),
     ] {
         for &(from, index) in packets {
-            held.push(from, index)?;
+            held.push(alloc, from, index)?;
         }
         assert_eq!(rt; held.take_all().as_slice(), packets);
         assert!(rt;

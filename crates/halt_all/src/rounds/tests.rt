@@ -13,9 +13,10 @@ enum Step {
 /// all are halted after each step, and when the open round began.
 #[test]
 fn tells_who_is_halted_and_since_when(rt: HostRuntime) -> Result<(), Fail> {
-    let none = Rounds::new(rt.alloc(), 0)?;
+    let alloc = rt.alloc();
+    let none = Rounds::new(alloc, 0)?;
     assert!(rt; none.all_halted(), "no node runs where there is none");
-    let mut rounds = Rounds::new(rt.alloc(), 2)?;
+    let mut rounds = Rounds::new(alloc, 2)?;
     assert!(rt; !rounds.all_halted(), "both nodes run at first");
     assert_eq!(rt; rounds.begun_at(), None);
     for (step, all_halted, begun_at) in [
@@ -35,7 +36,7 @@ fn tells_who_is_halted_and_since_when(rt: HostRuntime) -> Result<(), Fail> {
         match step {
             Step::Start(a) => {
                 assert!(rt; rounds.begun_at().is_none());
-                rounds.start(a)?;
+                rounds.start(alloc, a)?;
             }
             Step::Halted(node) => {
                 assert!(rt; rounds.begun_at().is_some() && 1 <= node && node <= 2);

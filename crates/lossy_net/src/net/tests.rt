@@ -4,12 +4,13 @@ use std::test::Fail;
 /// Copies of four packets, and what is offered to a node and taken, in turn, until nothing is left.
 #[test]
 fn offers_each_copy_once_by_sender_and_place(rt: HostRuntime) -> Result<(), Fail> {
-    let mut net = Net::new(rt.alloc())?;
+    let alloc = rt.alloc();
+    let mut net = Net::new(alloc)?;
     assert!(rt; net.is_empty(), "nothing is on its way at first");
-    net.sent(2, 3, 1, 1)?;
-    net.sent(2, 1, 7, 2)?;
-    net.sent(1, 1, 7, 1)?;
-    net.sent(2, 1, 2, 0)?;
+    net.sent(alloc, 2, 3, 1, 1)?;
+    net.sent(alloc, 2, 1, 7, 2)?;
+    net.sent(alloc, 1, 1, 7, 1)?;
+    net.sent(alloc, 2, 1, 2, 0)?;
     for (node, packet) in [
         (2, Some((1, 7))),
         (2, Some((1, 7))),

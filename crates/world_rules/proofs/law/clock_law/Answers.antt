@@ -1,4 +1,4 @@
-use Rattle.world_rules.proofs.Clocks.{reads_cut}
+use Rattle.world_types.proofs.Clocks.{reads_cut}
 use Rattle.world_rules.proofs.law.clock_law.Goals as goal
 
 pub returns : goal.returns
