@@ -1,2 +1,3 @@
+pub mod Picked
 pub mod Sound
 pub mod Worked

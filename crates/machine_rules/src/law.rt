@@ -1,8 +1,16 @@
+ghost use Rattle.std.specs.Prelude.{List, ℕ};
 ghost use Rattle.clu_tree.specs.declared.program.Program.{Program};
 ghost use Rattle.clu_tree.specs.Typed.{IsTyped};
 ghost use Rattle.machine_rules.specs.Typing.{IsNeverStuck};
+ghost use Rattle.machine_rules.specs.Picking.{InOrder, PicksNext};
+ghost use Rattle.machine_rules.specs.declared.status.Status.{Status};
 
 /// A process of a typed program is never stuck. A caller gets the law by a call, which does nothing.
 pub fn never_stuck()
     ensures { (p : Program) → IsTyped p → IsNeverStuck p }
+{}
+
+/// Among processes in the order of their numbers, the number that is picked is whose turn it is.
+pub fn picking_law()
+    ensures { (last : ℕ) (processes : List (ℕ × Status)) → InOrder processes → PicksNext last processes }
 {}

@@ -13,7 +13,7 @@ mod status;
 pub use act::{Act, RemoteAsk, StepEnd};
 pub use frame::{Frame, Var};
 pub use item::{Catch, Item};
-pub use law::never_stuck;
+pub use law::{never_stuck, picking_law};
 pub use obj::Obj;
 pub use stack::Stack;
 pub use status::Status;

@@ -100,9 +100,18 @@ Began-whole a c x w = record { part = x; rest = []; whole = sym (append-nil x); 
 pub Began-more : (a c : Option SinkTold) (x y : List ℕ) → Began a c x → Began a c (x ++ y)
 Began-more a c x y w = record { part = w.part; rest = w.rest ++ y; whole = ap (λ t. t ++ y) w.whole ∙ append_assoc w.part w.rest y; wrote = w.wrote }
 
--- a text, and then nothing of the next
-pub Began-append : (a b c : Option SinkTold) (x y : List ℕ) → Wrote a b x → Wrote b c [] → Began a c (x ++ y)
-Began-append a b c x y w v = record { part = x ++ []; rest = y; whole = ap (λ t. t ++ y) (sym (append-nil x)); wrote = Wrote-append a b c x [] w v }
+-- a text, and then a beginning of the next
+pub Began-append : (a b c : Option SinkTold) (x y : List ℕ) → Wrote a b x → Began b c y → Began a c (x ++ y)
+Began-append a b c x y w v = record {
+  part = x ++ v.part;
+  rest = v.rest;
+  whole = ap (λ t. x ++ t) v.whole ∙ sym (append_assoc x v.part v.rest);
+  wrote = Wrote-append a b c x v.part w v.wrote;
+}
+
+-- nothing of a text is a beginning of it
+pub Began-nothing : (a c : Option SinkTold) (x : List ℕ) → Wrote a c [] → Began a c x
+Began-nothing a c x w = record { part = []; rest = x; whole = refl; wrote = w }
 
 -- what fits in the room, as a written text does, is no more than the room
 Falls-fits : (r s : Option ℕ) (n : ℕ) → Falls r s n → ¬ Exceeds r n
@@ -139,7 +148,7 @@ PutsAll-put {a = a} {b = b} {c = c} {x = x} {y = y} {r = Ok t} z e w p = record 
 PutsAll-put {a = a} {b = b} {c = c} {x = x} {y = y} {r = Err f} z e w p = record {
   ok = tt;
   failed = λ f. rw e (CutShort-append a b c x y w (p.failed f));
-  memory = λ f. rw e (Began-append a b c x y w (p.memory f));
+  memory = λ f. rw e (Began-append a b c x y w (Began-nothing b c y (p.memory f)));
 }
 
 -- several pieces more
@@ -152,12 +161,7 @@ PutsAll-append {a = a} {b = b} {c = c} {x = x} {y = y} {r = Ok t} z e w p = reco
 PutsAll-append {a = a} {b = b} {c = c} {x = x} {y = y} {r = Err f} z e w p = record {
   ok = tt;
   failed = λ f. rw e (CutShort-append a b c x y w (p.failed f));
-  memory = λ f. let m = p.memory f in record {
-    part = x ++ m.part;
-    rest = m.rest;
-    whole = rw e (ap (λ t. x ++ t) m.whole ∙ sym (append_assoc x m.part m.rest));
-    wrote = Wrote-append a b c x m.part w m.wrote;
-  };
+  memory = λ f. rw e (Began-append a b c x y w (p.memory f));
 }
 
 -- what stopped early stopped early in more

@@ -6,9 +6,9 @@ use Rattle.world_types.specs.declared.effects.Entry.{Entry}
 use Rattle.world_rules.specs.Laws.{ErasingLaws}
 use Rattle.world_rules.specs.Node.{IsLegal}
 use Rattle.world_rules.specs.Transcript.{transcript}
+use Rattle.outside_edge.specs.Laws.{RowLaws}
 use Rattle.outside_edge.specs.Shelf.{ShelfTold, Loads}
 use Rattle.outside_edge.specs.Sink.{SinkTold, CutShort}
-use Rattle.outside_edge.proofs.Writing.{CutShort-exceeds}
 use Rattle.pilgrim_top.specs.Ends.{CountsFaults, CountsPuts, Says, status_of}
 use Rattle.pilgrim_top.specs.Replay.{Replays, Unnoticed, unread, refused, unscripted, ran, ran_out}
 use Rattle.pilgrim_top.specs.Script.{RunsScript, Finishes}
@@ -105,47 +105,47 @@ load_cause u shelf shelf' sink sink' journal a a' b b' (Err Cut) does h l = absu
 load_cause u shelf shelf' sink sink' journal a a' b b' (Err Memory) does h l = absurd (omega (arith, h.0, l))
 
 -- the room lacked for a text that is written behind no entries
-alone_lacks : (sink sink' : Option SinkTold) (journal : List Entry) (text : List ℕ) → journal ≡ [] → CutShort sink sink' text → RoomLacks sink sink' journal text
-alone_lacks sink sink' journal text j cut = CutShort-exceeds sink sink' (transcript journal ++ text) (rw (alone journal text j) cut)
+alone_lacks : RowLaws → (sink sink' : Option SinkTold) (journal : List Entry) (text : List ℕ) → journal ≡ [] → CutShort sink sink' text → RoomLacks sink sink' journal text
+alone_lacks row sink sink' journal text j cut = row.lacks sink sink' (transcript journal ++ text) (rw (alone journal text j) cut)
 
 -- a script whose writing was cut short
-script_cause : (file script bytes lines : List ℕ) (program : Program) (shelf mid shelf' : Option ShelfTold) (sink sink' : Option SinkTold) (journal : List Entry) →
+script_cause : RowLaws → (file script bytes lines : List ℕ) (program : Program) (shelf mid shelf' : Option ShelfTold) (sink sink' : Option SinkTold) (journal : List Entry) →
     Loads file shelf mid (Ok bytes) → IsAccepted bytes program → Loads script mid shelf' (Ok lines) → RunsScript program lines sink sink' journal (Err Cut) →
     (text : List ℕ) × EndText file script shelf shelf' journal text × RoomLacks sink sink' journal text
-script_cause file script bytes lines program shelf mid shelf' sink sink' journal l a m h = by_which h.wrote
+script_cause row file script bytes lines program shelf mid shelf' sink sink' journal l a m h = by_which h.wrote
   where
     by_which : CutShort sink sink' (transcript journal) ⊎ ((status : ℕ) × (text : List ℕ) × Finishes program journal h.rest h.count status text × CutShort sink sink' (transcript journal ++ text)) →
         (text : List ℕ) × EndText file script shelf shelf' journal text × RoomLacks sink sink' journal text
-    by_which (inl cut) = ([], no_text, CutShort-exceeds sink sink' (transcript journal ++ []) (rw (append-nil (transcript journal)) cut))
-    by_which (inr cut) = (cut.1, of_script bytes lines h.rest program mid h.count cut.0 cut.1 l a m h.applied cut.2, CutShort-exceeds sink sink' (transcript journal ++ cut.1) cut.3)
+    by_which (inl cut) = ([], no_text, row.lacks sink sink' (transcript journal ++ []) (rw (append-nil (transcript journal)) cut))
+    by_which (inr cut) = (cut.1, of_script bytes lines h.rest program mid h.count cut.0 cut.1 l a m h.applied cut.2, row.lacks sink sink' (transcript journal ++ cut.1) cut.3)
 
-cut_cause : (file script : List ℕ) (shelf shelf' : Option ShelfTold) (sink sink' : Option SinkTold) (journal : List Entry) → Replays file script shelf shelf' sink sink' journal (Err Cut) → (text : List ℕ) × EndText file script shelf shelf' journal text × RoomLacks sink sink' journal text
-cut_cause file script shelf shelf' sink sink' journal (unread l j w e) = cc
-cut_cause file script shelf shelf' sink sink' journal (refused bytes text l r j says) = (text, of_program bytes text l r, alone_lacks sink sink' journal text j says)
-cut_cause file script shelf shelf' sink sink' journal (unscripted bytes p mid l a m j w e) = cc
-cut_cause file script shelf shelf' sink sink' journal (ran bytes p mid lines l a m run un) = script_cause file script bytes lines p shelf mid shelf' sink sink' journal l a m run
-cut_cause file script shelf shelf' sink sink' journal (ran_out l j w e) = cc
+cut_cause : RowLaws → (file script : List ℕ) (shelf shelf' : Option ShelfTold) (sink sink' : Option SinkTold) (journal : List Entry) → Replays file script shelf shelf' sink sink' journal (Err Cut) → (text : List ℕ) × EndText file script shelf shelf' journal text × RoomLacks sink sink' journal text
+cut_cause row file script shelf shelf' sink sink' journal (unread l j w e) = cc
+cut_cause row file script shelf shelf' sink sink' journal (refused bytes text l r j says) = (text, of_program bytes text l r, alone_lacks row sink sink' journal text j says)
+cut_cause row file script shelf shelf' sink sink' journal (unscripted bytes p mid l a m j w e) = cc
+cut_cause row file script shelf shelf' sink sink' journal (ran bytes p mid lines l a m run un) = script_cause row file script bytes lines p shelf mid shelf' sink sink' journal l a m run
+cut_cause row file script shelf shelf' sink sink' journal (ran_out l j w e) = cc
 
-cut_does : (u : Usage) (shelf shelf' : Option ShelfTold) (sink sink' : Option SinkTold) (journal : List Entry) → Does u shelf shelf' sink sink' journal (Err Cut) → RoomCause u shelf shelf' sink sink' journal
-cut_does (Replay file script) shelf shelf' sink sink' journal h = cut_cause (string_bytes file) (string_bytes script) shelf shelf' sink sink' journal h
-cut_does (Check file) shelf shelf' sink sink' journal h = alone_lacks sink sink' journal usage_text h.noted h.says
-cut_does (Erase file script) shelf shelf' sink sink' journal h = alone_lacks sink sink' journal usage_text h.noted h.says
-cut_does (Load calls) shelf shelf' sink sink' journal h = alone_lacks sink sink' journal usage_text h.noted h.says
-cut_does (Run words) shelf shelf' sink sink' journal h = alone_lacks sink sink' journal usage_text h.noted h.says
+cut_does : RowLaws → (u : Usage) (shelf shelf' : Option ShelfTold) (sink sink' : Option SinkTold) (journal : List Entry) → Does u shelf shelf' sink sink' journal (Err Cut) → RoomCause u shelf shelf' sink sink' journal
+cut_does row (Replay file script) shelf shelf' sink sink' journal h = cut_cause row (string_bytes file) (string_bytes script) shelf shelf' sink sink' journal h
+cut_does row (Check file) shelf shelf' sink sink' journal h = alone_lacks row sink sink' journal usage_text h.noted h.says
+cut_does row (Erase file script) shelf shelf' sink sink' journal h = alone_lacks row sink sink' journal usage_text h.noted h.says
+cut_does row (Load calls) shelf shelf' sink sink' journal h = alone_lacks row sink sink' journal usage_text h.noted h.says
+cut_does row (Run words) shelf shelf' sink sink' journal h = alone_lacks row sink sink' journal usage_text h.noted h.says
 
 -- where the sink's count rose, its room lacked
-pub room_cause : (u : Usage) (shelf shelf' : Option ShelfTold) (sink sink' : Option SinkTold) (journal : List Entry) (a a' b b' : ℕ) (end : Result ℕ Stop) → Does u shelf shelf' sink sink' journal end → CountsFaults a a' b b' end → b < b' → RoomCause u shelf shelf' sink sink' journal
-room_cause u shelf shelf' sink sink' journal a a' b b' (Ok s) does h l = absurd (omega (arith, h.1, l))
-room_cause u shelf shelf' sink sink' journal a a' b b' (Err Unread) does h l = absurd (omega (arith, h.1, l))
-room_cause u shelf shelf' sink sink' journal a a' b b' (Err Cut) does h l = cut_does u shelf shelf' sink sink' journal does
-room_cause u shelf shelf' sink sink' journal a a' b b' (Err Memory) does h l = absurd (omega (arith, h.1, l))
+pub room_cause : RowLaws → (u : Usage) (shelf shelf' : Option ShelfTold) (sink sink' : Option SinkTold) (journal : List Entry) (a a' b b' : ℕ) (end : Result ℕ Stop) → Does u shelf shelf' sink sink' journal end → CountsFaults a a' b b' end → b < b' → RoomCause u shelf shelf' sink sink' journal
+room_cause row u shelf shelf' sink sink' journal a a' b b' (Ok s) does h l = absurd (omega (arith, h.1, l))
+room_cause row u shelf shelf' sink sink' journal a a' b b' (Err Unread) does h l = absurd (omega (arith, h.1, l))
+room_cause row u shelf shelf' sink sink' journal a a' b b' (Err Cut) does h l = cut_does row u shelf shelf' sink sink' journal does
+room_cause row u shelf shelf' sink sink' journal a a' b b' (Err Memory) does h l = absurd (omega (arith, h.1, l))
 
 -- the same where the usage text was to be written and nothing else
-pub usage_cause : (sink sink' : Option SinkTold) (journal : List Entry) (b b' : ℕ) (end : Result ℕ Stop) → Says usage_text 1 sink sink' end → CountsPuts b b' end → journal ≡ [] → b < b' → RoomLacks sink sink' journal usage_text
-usage_cause sink sink' journal b b' (Ok s) says h j l = absurd (omega (arith, h, l))
-usage_cause sink sink' journal b b' (Err Unread) says h j l = absurd h
-usage_cause sink sink' journal b b' (Err Cut) says h j l = alone_lacks sink sink' journal usage_text j says
-usage_cause sink sink' journal b b' (Err Memory) says h j l = absurd (omega (arith, h, l))
+pub usage_cause : RowLaws → (sink sink' : Option SinkTold) (journal : List Entry) (b b' : ℕ) (end : Result ℕ Stop) → Says usage_text 1 sink sink' end → CountsPuts b b' end → journal ≡ [] → b < b' → RoomLacks sink sink' journal usage_text
+usage_cause row sink sink' journal b b' (Ok s) says h j l = absurd (omega (arith, h, l))
+usage_cause row sink sink' journal b b' (Err Unread) says h j l = absurd h
+usage_cause row sink sink' journal b b' (Err Cut) says h j l = alone_lacks row sink sink' journal usage_text j says
+usage_cause row sink sink' journal b b' (Err Memory) says h j l = absurd (omega (arith, h, l))
 
 -- ---- usages that can't be run yet
 

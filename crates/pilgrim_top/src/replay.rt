@@ -7,7 +7,7 @@ ghost use Rattle.pilgrim_top.specs.Replay.{Replays, refused_text};
 use crate::script::run_script;
 use crate::stop::{Stop, say};
 use clu_reader::{AcceptFault, accept};
-use outside_edge::{LoadFault, Shelf, Sink};
+use outside_edge::{LoadFault, Shelf, Sink, puts_in_a_row};
 use std::alloc::Global;
 use world_rules::erasing_laws;
 use world_types::Entry;
@@ -20,6 +20,7 @@ fn refuse<K: Sink>(alloc: Global, sink: &mut K, line: u32) -> Result<u8, Stop>
     ensures counts { CountsPuts (K.faults sink.old) (K.faults sink.new) result }
     ensures says { Says (refused_text line) 2 (K.told sink.old) (K.told sink.new) result }
 {
+    puts_in_a_row();
     let Ok(text) = format!(in alloc; "program refused at line {line}\n") else {
         return Err(Stop::Memory);
     };
@@ -39,6 +40,7 @@ pub fn replay<S: Shelf, K: Sink>(
     ensures counts { CountsFaults (S.faults shelf.old) (S.faults shelf.new) (K.faults sink.old) (K.faults sink.new) result }
     ensures replays { Replays file.now script.now (S.told shelf.old) (S.told shelf.new) (K.told sink.old) (K.told sink.new) journal.new.items result }
 {
+    puts_in_a_row();
     let text = match shelf.load(alloc, file) {
         Ok(text) => text,
         Err(LoadFault::Failed) => return Err(Stop::Unread),

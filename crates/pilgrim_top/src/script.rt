@@ -11,8 +11,9 @@ use crate::written::written;
 use clu_tree::Program;
 use debug_world::{DebugWorld, WorldFault};
 use journal_text::{LineFault, first_line};
-use outside_edge::{PutFault, Sink};
+use outside_edge::{PutFault, Sink, puts_in_a_row};
 use std::alloc::Global;
+use world_rules::following_laws;
 use world_types::{Entry, Told};
 
 /// A script has at most this many lines.
@@ -54,6 +55,7 @@ fn refuse<K: Sink>(alloc: Global, sink: &mut K, count: u32) -> Result<u8, Stop>
     ensures counts { CountsPuts (K.faults sink.old) (K.faults sink.new) result }
     ensures says { Says (refusal_text count) 6 (K.told sink.old) (K.told sink.new) result }
 {
+    puts_in_a_row();
     let line = count + 1;
     let Ok(text) = format!(in alloc; "script refused at line {line}\n") else {
         return Err(Stop::Memory);
@@ -74,6 +76,8 @@ pub fn run_script<K: Sink>(
     ensures counts { CountsPuts (K.faults sink.old) (K.faults sink.new) result }
     ensures runs { RunsScript program.now script.now (K.told sink.old) (K.told sink.new) journal.new.items result }
 {
+    puts_in_a_row();
+    following_laws();
     let Ok(mut world) = DebugWorld::new(alloc, program) else {
         return Err(Stop::Memory);
     };

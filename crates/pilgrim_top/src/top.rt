@@ -10,7 +10,7 @@ ghost use Rattle.pilgrim_top.specs.declared.usage.Usage.{Usage};
 use crate::replay::replay;
 use crate::stop::{Stop, say};
 use crate::usage::{Usage, UsageFault, usage_of};
-use outside_edge::{Shelf, Sink};
+use outside_edge::{Shelf, Sink, puts_in_a_row};
 use std::alloc::Global;
 use world_types::Entry;
 
@@ -87,6 +87,7 @@ pub fn top_still<S: Shelf, K: Sink>(
     // The journal is legal, its events are the script's lines, and the debugger can't be noticed.
     ensures does { (end : Result ℕ Stop) × (result.status ≡ status_of end) × Does usage.now (S.told shelf.old) (S.told shelf.new) (K.told sink.old) (K.told sink.new) result.journal.items end }
 {
+    puts_in_a_row();
     let mut journal = Vec::new(alloc);
     let end = run(alloc, usage, shelf, sink, &mut journal);
     Still {
@@ -116,6 +117,7 @@ pub fn top_words<S: Shelf, K: Sink>(
     ensures room_cause { K.faults sink.old < K.faults sink.new → WordsRoomCause (texts_of words.now) (S.told shelf.old) (S.told shelf.new) (K.told sink.old) (K.told sink.new) result.journal.items }
     ensures does { (end : Result ℕ Stop) × (result.status ≡ status_of end) × WordsDo (texts_of words.now) (S.told shelf.old) (S.told shelf.new) (K.told sink.old) (K.told sink.new) result.journal.items end }
 {
+    puts_in_a_row();
     let journal = Vec::new(alloc);
     match usage_of(alloc, words) {
         Ok(usage) => top_still(alloc, &usage, shelf, sink),

@@ -1,3 +1,3 @@
 mod Places
 mod Tables
-pub mod Turns
+mod Turns

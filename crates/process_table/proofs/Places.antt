@@ -21,14 +21,6 @@ module _ {X : Type 0} where
   abbrev pub Rise : List (ℕ × X) → Type 0
   Rise es = IsStrictlySortedBy nat_cmp (keys_of es)
 
-  -- a number found behind another is above it
-  pub lookup_above : (a n : ℕ) (x : X) (es : List (ℕ × X)) → AllByRecursion (λ y. nat_cmp a y ≡ Less) (keys_of es) → lookup (eqb n) es ≡ Some x → a < n
-  lookup_above a n x [] above found = absurd (none-some x found)
-  lookup_above a n x (e ∷ es) above found = elim (cases_lt a n) [
-    | inl below ↦ below
-    | inr not_below ↦ grind (arith, nat_tests, above.0, lookup_above a n x es above.1)
-  ]
-
   -- the first number is below one at a later place
   head_below : (e : ℕ × X) (es : List (ℕ × X)) (i k : ℕ) → Rise (e ∷ es) → slice_get (keys_of es) i ≡ Some k → e.0 < k
   head_below e es i k rise at =

@@ -10,8 +10,8 @@ use Rattle.std.proofs.lemmas.List.Edits.{insert_end}
 use Rattle.std.proofs.lemmas.List.Elements.{All-push, All-weaker, All-contains, recursion_from_All}
 use Rattle.std.proofs.lemmas.Map.{lookup-insert, lookup-set_value, keys-set_value, length-set_value}
 use Rattle.std.proofs.lemmas.Map.Views.{All-map-remove_entry, Contains-keys_from_lookup, exact_unsigned_eq}
-use Rattle.process_table.specs.declared.status.Status.{Status}
-use Rattle.process_table.specs.declared.status.Status.TheVariants.{Ready}
+use Rattle.machine_rules.specs.declared.status.Status.{Status}
+use Rattle.machine_rules.specs.declared.status.Status.TheVariants.{Ready}
 use Rattle.process_table.specs.Processes.{Processes, numbers, IsLive, IsTable, ChangesOnly}
 use Rattle.process_table.proofs.Places.{lookup-remove, Rise-remove, length-remove_le, sorted_push}
 

@@ -1,10 +1,8 @@
--- The processes of a node, and whose turn it is.
-use Rattle.std.specs.Prelude.{◌≡◌, ℕ, ◌<◌, ◌≤◌, ◌^◌, ◌⊎◌, List, length, nat_eq, Bool, true, false, Option, Some, IsSome, if◌then◌else◌, All}
-use Rattle.std.specs.List.Sorted.{IsStrictlySortedBy}
+-- The processes of a node, which take turns.
+use Rattle.std.specs.Prelude.{◌≡◌, ℕ, ◌≤◌, ◌^◌, ◌⊎◌, List, length, nat_eq, Option, IsSome, if◌then◌else◌, All}
 use Rattle.std.specs.Map.{lookup, keys_of}
-use Rattle.std.specs.Ordering.{nat_cmp}
-use Rattle.process_table.specs.declared.status.Status.{Status}
-use Rattle.process_table.specs.declared.status.Status.TheVariants.{Ready}
+use Rattle.machine_rules.specs.declared.status.Status.{Status}
+use Rattle.machine_rules.specs.Picking.{InOrder}
 
 -- the live processes in the order of their numbers, each with its status; the number given last; and the number picked last. Both numbers are 0 at first
 pub record Processes : Type 0 where
@@ -23,19 +21,6 @@ status_of t pid = lookup (nat_eq pid) t.live
 abbrev pub IsLive : Processes → ℕ → Type 0
 IsLive t pid = IsSome (status_of t pid)
 
-abbrev pub is_ready : Status → Bool
-is_ready Ready = true
-is_ready _ = false
-
-abbrev pub IsReady : Processes → ℕ → Type 0
-IsReady t pid = status_of t pid ≡ Some Ready
-
--- whose turn it is: the least ready number above the one picked last or, where no number above that one is ready, the least ready number
-pub record IsNext (t : Processes) (pid : ℕ) : Type 0 where
-  pub ready : IsReady t pid
-  pub above : (other : ℕ) → IsReady t other → t.picked < other → (t.picked < pid) × (pid ≤ other)
-  pub from_start : pid ≤ t.picked → (other : ℕ) → IsReady t other → pid ≤ other
-
 -- no more processes can be added: 1,024 are live, or the last number was given
 abbrev pub IsFull : Processes → Type 0
 IsFull t = (length t.live ≡ 1024) ⊎ (t.given ≡ 2 ^ 62)
@@ -46,7 +31,7 @@ ChangesOnly old new pid status = (other : ℕ) → status_of new other ≡ (if n
 
 -- numbers rise and were given, and the bounds on them hold
 pub record IsTable (t : Processes) : Type 0 where
-  pub rising : IsStrictlySortedBy nat_cmp (numbers t)
+  pub rising : InOrder t.live
   pub all_given : All (λ pid. (1 ≤ pid) × (pid ≤ t.given)) (numbers t)
   pub few_live : length t.live ≤ 1024
   pub given_bound : t.given ≤ 2 ^ 62

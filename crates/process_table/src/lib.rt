@@ -1,11 +1,10 @@
 //! The live processes of a node, with their status and the order in which they take turns.
 #![tactic(auto)]
 
-mod status;
 mod table;
 #[cfg(test)]
 mod tests;
 
 pub use clu_tree::Addr;
-pub use status::Status;
-pub use table::{AddFault, LAST_NUMBER, MAX_LIVE, ProcessTable};
+pub use machine_rules::Status;
+pub use table::{AddFault, LAST_NUMBER, MAX_LIVE, Memory, ProcessTable};

@@ -1,9 +1,9 @@
-ghost use Rattle.std.specs.Prelude.{◌≡◌, ◌+◌, ◌&&◌, ◌↔◌, ℕ, [], ◌∷◌, ◌++◌, find, nat_eq, nat_lt, IfOk, OnOk, OnErr, IfSome, IsNone, is_some, slice_get, Some, None};
+ghost use Rattle.std.specs.Prelude.{◌≡◌, ◌+◌, ◌↔◌, ℕ, [], ◌∷◌, ◌++◌, nat_eq, IfOk, OnOk, OnErr, IfSome, IsNone, is_some, slice_get, Some, None};
 ghost use Rattle.std.specs.Map.{remove_entry, set_value};
-ghost use Rattle.std.specs.Option.{option_map};
-ghost use Rattle.process_table.specs.Processes.{ChangesOnly, IsFull, IsLive, IsNext, IsReady, IsTable, is_ready, numbers, status_of};
+ghost use Rattle.machine_rules.specs.Picking.{IsNext, IsReady, least_ready, picks, ready_above};
+ghost use Rattle.process_table.specs.Processes.{ChangesOnly, IsFull, IsLive, IsTable, numbers, status_of};
 
-use crate::status::Status;
+use machine_rules::{Status, picking_law};
 use std::alloc::{AllocError, Global};
 use std::marker::Model;
 use thiserror::Error;
@@ -13,6 +13,9 @@ pub const MAX_LIVE: usize = 1024;
 
 /// The last number that is given to a process.
 pub const LAST_NUMBER: u64 = 1 << 62;
+
+/// Memory ran out.
+pub type Memory = AllocError;
 
 /// Why a process couldn't be added.
 #[derive(Debug, Drop, Error)]
@@ -43,7 +46,7 @@ impl Model for ProcessTable {
 
 impl ProcessTable {
     /// A table without processes. The number picked last counts as 0.
-    pub fn new(alloc: Global) -> Result<ProcessTable, AllocError>
+    pub fn new(alloc: Global) -> Result<ProcessTable, Memory>
         ensures empty { IfOk result (λ t. t ≡ record { live = []; given = 0; picked = 0 }) }
         ensures table { IfOk result IsTable }
     {
@@ -56,7 +59,7 @@ impl ProcessTable {
 
     /// Adds a process that is ready, under the next number, and answers that number. It is `Full` where 1,024
     /// processes are live, or where the number 2^62 was given. After either fault the table is as it was.
-    pub fn add(&mut self) -> Result<u64, AddFault>
+    pub fn add(&mut self, alloc: Global) -> Result<u64, AddFault>
         ensures number { IfOk result (λ pid. pid ≡ self.old.given + 1) }
         ensures ok { OnOk result (self.new ≡ record self.old {
           live = self.old.live ++ (self.old.given + 1, Status.Ready) ∷ [];
@@ -81,12 +84,13 @@ impl ProcessTable {
     /// The process whose turn it is: the least ready number above the one picked last, else the least ready
     /// number. None where no process is ready.
     pub fn pick(&self) -> Option<u64>
-        ensures none { IsNone result ↔ ((pid : ℕ) → ¬ IsReady self.now pid) }
-        ensures next { IfSome result (IsNext self.now) }
+        ensures picks { result ≡ picks self.now.picked self.now.live }
+        ensures none { IsNone result ↔ ((pid : ℕ) → ¬ IsReady self.now.live pid) }
+        ensures next { IfSome result (IsNext self.now.picked self.now.live) }
         ensures table { IsTable self.now }
     {
-        self.first_ready_above(self.picked)
-            .or_else(|| self.first_ready_above(0))
+        picking_law();
+        self.ready_above(self.picked).or_else(|| self.least_ready())
     }
 
     /// Remembers a live process as the one picked last.
@@ -139,13 +143,21 @@ impl ProcessTable {
     }
 
     // The least ready number above this one.
-    fn first_ready_above(&self, floor: u64) -> Option<u64>
-        ensures { result ≡ option_map (λ p. p.0) (find (λ p. nat_lt floor p.0 && is_ready p.1) self.now.live) }
+    fn ready_above(&self, last: u64) -> Option<u64>
+        ensures { result ≡ ready_above last self.now.live }
     {
         let found = self
             .live
             .iter()
-            .find(|process| floor < process.0 && process.1 == Status::Ready);
+            .find(|process| last < process.0 && process.1 == Status::Ready);
+        found.map(|process| process.0)
+    }
+
+    // The least ready number.
+    fn least_ready(&self) -> Option<u64>
+        ensures { result ≡ least_ready self.now.live }
+    {
+        let found = self.live.iter().find(|process| process.1 == Status::Ready);
         found.map(|process| process.0)
     }
 

@@ -6,7 +6,7 @@ fn processes_take_turns(rt: HostRuntime) -> Result<(), Fail> {
     let mut table = ProcessTable::new(rt.alloc())?;
     assert_eq!(rt; table.pick(), None);
     for pid in 1..4 {
-        assert_eq!(rt; table.add()?, pid);
+        assert_eq!(rt; table.add(rt.alloc())?, pid);
     }
     for (last, next) in [(0, 1), (3, 1), (1, 2), (2, 3)] {
         if table.status(last).is_some() {
@@ -33,7 +33,7 @@ fn processes_take_turns(rt: HostRuntime) -> Result<(), Fail> {
         table.end(2);
     }
     assert_eq!(rt; table.status(2), None);
-    assert_eq!(rt; table.add()?, 4);
+    assert_eq!(rt; table.add(rt.alloc())?, 4);
     for (place, pid) in [(0, Some(1)), (1, Some(3)), (2, Some(4)), (3, None)] {
         assert_eq!(rt; table.at(place), pid, "at {place}");
     }
@@ -44,16 +44,16 @@ fn processes_take_turns(rt: HostRuntime) -> Result<(), Fail> {
 fn a_table_has_room_for_1024(rt: HostRuntime) -> Result<(), Fail> {
     let mut table = ProcessTable::new(rt.alloc())?;
     for _ in 0..1024 {
-        table.add()?;
+        table.add(rt.alloc())?;
     }
-    assert!(rt; matches!(table.add(), Err(AddFault::Full)));
+    assert!(rt; matches!(table.add(rt.alloc()), Err(AddFault::Full)));
     assert_eq!(rt; table.at(1023), Some(1024));
     assert_eq!(rt; table.at(1024), None);
     if table.status(500).is_some() {
         table.end(500);
     }
-    assert_eq!(rt; table.add()?, 1025);
-    assert!(rt; matches!(table.add(), Err(AddFault::Full)));
+    assert_eq!(rt; table.add(rt.alloc())?, 1025);
+    assert!(rt; matches!(table.add(rt.alloc()), Err(AddFault::Full)));
     for (fault, text) in [
         (AddFault::Full, "no more processes can be added"),
         (AddFault::Memory, "out of memory"),

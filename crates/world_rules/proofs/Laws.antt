@@ -1,12 +1,13 @@
 -- The laws of what a list says, over every program.
-use Rattle.std.proofs.Common.{List, reverse, subst}
+use Rattle.std.proofs.Common.{List, [], ◌∷◌, reverse, subst}
+use Rattle.std.proofs.lemmas.List.{reverse-append}
 use Rattle.clu_tree.specs.declared.program.Program.{Program}
 use Rattle.world_types.specs.declared.event.Told.{Told}
 use Rattle.world_types.specs.declared.effects.Entry.{Entry}
 use Rattle.world_rules.specs.Said.{rounds, cut, erase, last_stamp}
 use Rattle.world_rules.specs.Legal.{InTime, tolds}
 use Rattle.world_rules.specs.Node.{IsLegal, first_of_program, rules_of}
-use Rattle.world_rules.specs.Laws.{CutLaws, ErasingLaws, past_of}
+use Rattle.world_rules.specs.Laws.{CutLaws, ErasingLaws, FollowingLaws, past_of}
 use Rattle.world_types.proofs.Cuts.{cut_mono}
 use Rattle.world_rules.proofs.Cuts.{rounds_ordered}
 use Rattle.world_rules.proofs.Erasing.{cut-later, erase-plain, plain_erased, snoc}
@@ -32,4 +33,10 @@ erasing_laws program = record {
   same = same_effects (rules_of program) (first_of_program program);
   legal = λ list h. erases_legally (rules_of program) (first_of_program program) (lawful program) list h;
   again = λ list. erase-plain (erase list) (plain_erased (cut (rounds (reverse list))) (reverse list));
+}
+
+pub following_laws : (program : Program) → FollowingLaws program
+following_laws program = record {
+  past = tolds-reverse;
+  legal = λ list e h follows. rw (reverse-append list (e ∷ [])) (h, rw (tolds-reverse list) follows);
 }

@@ -4,7 +4,7 @@ use Rattle.clu_tree.specs.declared.program.Program.{Program}
 use Rattle.world_types.specs.declared.event.Told.{Told}
 use Rattle.world_types.specs.declared.effects.Entry.{Entry}
 use Rattle.world_rules.specs.Said.{rounds, cut, erase, items}
-use Rattle.world_rules.specs.Legal.{ArePlain, ErasesLegally, SameEffects, first_failing, tolds}
+use Rattle.world_rules.specs.Legal.{ArePlain, ErasesLegally, Follows, SameEffects, first_failing, tolds}
 use Rattle.world_rules.specs.Node.{IsLegal, first_of_program, rules_of}
 
 -- the events of the entries, the newest first
@@ -25,3 +25,9 @@ pub record ErasingLaws (program : Program) : Type 0 where
   pub same : (list : List Entry) → IsLegal program list → SameEffects (rules_of program) (first_of_program program) list
   pub legal : (list : List Entry) → IsLegal program list → ErasesLegally (rules_of program) (first_of_program program) list
   pub again : (list : List Told) → erase (erase list) ≡ erase list
+
+-- Of one more entry: the events of a list that is read from its end are its past; and a legal list that an entry follows
+-- is legal with that entry.
+pub record FollowingLaws (program : Program) : Type 0 where
+  pub past : (list : List Entry) → tolds (reverse list) ≡ past_of list
+  pub legal : (list : List Entry) (e : Entry) → IsLegal program list → Follows (rules_of program) (first_of_program program) (past_of list) e → IsLegal program (list ++ e ∷ [])

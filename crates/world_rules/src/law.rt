@@ -7,12 +7,17 @@ ghost use Rattle.world_types.specs.declared.event.Event.TheVariants.{Resume};
 ghost use Rattle.world_rules.specs.Said.{Round, cut, read_by, rounds};
 ghost use Rattle.world_rules.specs.Clock.{ClosedBy, Knows, Lacks, Ordered, clock_reads, opening, total};
 ghost use Rattle.world_rules.specs.Legal.{first_failing, reached};
-ghost use Rattle.world_rules.specs.Laws.{CutLaws, ErasingLaws};
+ghost use Rattle.world_rules.specs.Laws.{CutLaws, ErasingLaws, FollowingLaws};
 ghost use Rattle.world_rules.specs.Node.{first_of_program, rules_of};
 
 /// The laws of the list without the debugger.
 pub fn erasing_laws()
     ensures { (program : Program) → ErasingLaws program }
+{}
+
+/// The laws of a list with one more entry.
+pub fn following_laws()
+    ensures { (program : Program) → FollowingLaws program }
 {}
 
 /// The laws of logical time.

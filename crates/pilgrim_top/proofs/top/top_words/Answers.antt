@@ -1,5 +1,4 @@
 use Rattle.std.proofs.Common.{Err, inl, inr, refl, arith}
-use Rattle.outside_edge.proofs.Writing.{Wrote-nothing}
 use Rattle.pilgrim_top.specs.declared.stop.Stop.TheVariants.{Memory}
 use Rattle.pilgrim_top.specs.Top.{asked, unread}
 use Rattle.pilgrim_top.proofs.Replays.{usage_cause}
@@ -20,10 +19,10 @@ pub returns-in-Err-Usage-clause-load_cause : goal.returns-in-Err-Usage-clause-lo
 returns-in-Err-Usage-clause-load_cause g c = λ rose. absurd (omega (arith, rose))
 
 pub returns-in-Err-Usage-clause-room_cause : goal.returns-in-Err-Usage-clause-room_cause
-returns-in-Err-Usage-clause-room_cause g c = λ rose. inr ((rw c.in-Err-Usage.field-0-is at c.in-Err-Usage.ensures.usage) refl, usage_cause _ _ _ _ _ c.show_usage-end.result c.show_usage-end.ensures.says c.show_usage-end.ensures.counts c.new-journal.ensures.items rose)
+returns-in-Err-Usage-clause-room_cause g c = λ rose. inr ((rw c.in-Err-Usage.field-0-is at c.in-Err-Usage.ensures.usage) refl, usage_cause c.puts_in_a_row.ensures _ _ _ _ _ c.show_usage-end.result c.show_usage-end.ensures.says c.show_usage-end.ensures.counts c.new-journal.ensures.items rose)
 
 pub returns-in-Err-Memory-clause-does : goal.returns-in-Err-Memory-clause-does
-returns-in-Err-Memory-clause-does g c = (Err Memory, refl, unread refl c.new-journal.ensures.items (Wrote-nothing (g.K.Sink.told c.args.sink.now)) refl)
+returns-in-Err-Memory-clause-does g c = (Err Memory, refl, unread refl c.new-journal.ensures.items (c.puts_in_a_row.ensures.nothing (g.K.Sink.told c.args.sink.now)) refl)
 
 pub returns-in-Err-Memory-clause-load_cause : goal.returns-in-Err-Memory-clause-load_cause
 returns-in-Err-Memory-clause-load_cause g c = λ rose. absurd (omega (arith, rose))

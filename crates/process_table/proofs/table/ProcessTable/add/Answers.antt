@@ -1,6 +1,6 @@
 -- The new number is above all others.
 use Rattle.std.proofs.Common.{◌≡◌, ◌+◌, [], ◌∷◌, ◌++◌, Some, subst, arith}
-use Rattle.process_table.specs.declared.status.Status.TheVariants.{Ready}
+use Rattle.machine_rules.specs.declared.status.Status.TheVariants.{Ready}
 use Rattle.process_table.specs.Processes.{ChangesOnly, IsTable}
 use Rattle.process_table.specs.contracts.table.ProcessTable.{the_view}
 use Rattle.process_table.proofs.Tables.{IsTable-add, ChangesOnly-add}

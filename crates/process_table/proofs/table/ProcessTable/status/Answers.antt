@@ -2,7 +2,7 @@
 use Rattle.std.proofs.Common.{◌≡◌, ℕ, Some, slice_get, sym, ap, ◌∙◌, subst, arith}
 use Rattle.std.proofs.lemmas.List.{length-map}
 use Rattle.std.proofs.lemmas.Option.{slice_get_within}
-use Rattle.process_table.specs.declared.status.Status.{Status}
+use Rattle.machine_rules.specs.declared.status.Status.{Status}
 use Rattle.process_table.specs.Processes.{numbers, status_of}
 use Rattle.process_table.specs.contracts.table.ProcessTable.{the_view}
 use Rattle.process_table.proofs.Places.{lookup_at}
