@@ -1,3 +1,5 @@
 pub mod Fields
+pub mod Parts
+pub mod Events
 pub mod Lines
 pub mod Sequence

@@ -2,7 +2,7 @@
 use Rattle.std.specs.Prelude.{◌≡◌, ◌≢◌, ℕ, ◌+◌, ◌^◌, ◌<◌, ◌≤◌, List, [], ◌++◌, All, length, ◌⊎◌}
 use Rattle.std.specs.List.{flat_map}
 use Rattle.world_types.specs.declared.event.Event.{Event}
-use Rattle.world_types.specs.declared.event.Event.TheVariants.{Turn}
+use Rattle.world_types.specs.declared.event.Event.TheVariants.{Turn, Tick}
 use Rattle.world_types.specs.declared.event.Told.{Told}
 use Rattle.journal_text.specs.Spelling.{spelled}
 
@@ -18,9 +18,10 @@ IsNumber number = number < 2 ^ 62
 abbrev pub IsStepCount : ℕ → Type 0
 IsStepCount steps = (0 < steps) × (steps ≤ 64)
 
--- the numbers of an event are within their bounds
+-- the event is one that is read, with its numbers within their bounds
 abbrev pub IsEvent : Event → Type 0
 IsEvent (Turn node steps reading) = IsNode node × IsStepCount steps × IsNumber reading
+IsEvent (Tick node) = IsNode node
 IsEvent _ = ⊥
 
 -- the line is one that a journal may have

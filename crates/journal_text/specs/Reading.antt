@@ -1,10 +1,13 @@
 -- Reading a line from left to right.
 use Rattle.std.specs.Prelude.{◌≡◌, ℕ, ◌+◌, ◌-◌, ◌*◌, ◌^◌, List, [], ◌∷◌, Bool, Option, Some, None, Result, Ok, Err, nat_le, ◌==◌, ◌&&◌, ◌||◌, not, if◌then◌else◌, codes}
 use Rattle.world_types.specs.declared.event.Event.{Event}
-use Rattle.world_types.specs.declared.event.Event.TheVariants.{Turn}
+use Rattle.world_types.specs.declared.event.Event.TheVariants.{Turn, Tick}
 use Rattle.world_types.specs.declared.event.Told.{Told}
 use Rattle.journal_text.specs.declared.fault.LineFault.{LineFault}
 use Rattle.journal_text.specs.declared.fault.LineFault.TheVariants.{Bad, Memory}
+use Rattle.journal_text.specs.declared.word.Word.{Word}
+use Rattle.journal_text.specs.declared.word.Word.TheVariants as word
+use Rattle.journal_text.specs.declared.word.TheConstants.{WORDS}
 
 infixl 10 ◌>>=◌
 abbrev pub ◌>>=◌ : {A B : Type 0} → Option A → (A → Option B) → Option B
@@ -64,17 +67,43 @@ positive_at largest bytes = do
   n ← word_number_at largest bytes
   if n.0 == 0 then None else Some n
 
-unfoldable pub turn_at : List ℕ → Option (Event × List ℕ)
-turn_at bytes = do
-  node ← word_number_at (2 ^ 32 - 1) bytes
-  steps ← positive_at 64 node.1
+-- how a word is spelled
+abbrev pub word_text : Word → List ℕ
+word_text word.Turn = codes "turn"
+word_text word.Tick = codes "tick"
+
+-- a word with the bytes behind it, or else what the others give
+abbrev pub word_or : Word → Option (List ℕ) → Option (Word × List ℕ) → Option (Word × List ℕ)
+word_or w (Some rest) others = Some (w, rest)
+word_or w None others = others
+
+-- the first of the words with which the bytes begin
+abbrev pub first_word : List Word → List ℕ → Option (Word × List ℕ)
+first_word [] bytes = None
+first_word (w ∷ words) bytes = word_or w (text_at (word_text w) bytes) (first_word words bytes)
+
+unfoldable pub word_at : List ℕ → Option (Word × List ℕ)
+word_at bytes = do
+  behind ← text_at (32 ∷ []) bytes
+  first_word WORDS behind
+
+-- a turn of the node
+unfoldable pub turn_at : ℕ → List ℕ → Option (Event × List ℕ)
+turn_at node bytes = do
+  steps ← positive_at 64 bytes
   reading ← word_number_at (2 ^ 62 - 1) steps.1
-  Some (Turn node.0 steps.0 reading.0, reading.1)
+  Some (Turn node steps.0 reading.0, reading.1)
+
+-- an event of the node, by its word
+abbrev pub of_node_at : Word → ℕ → List ℕ → Option (Event × List ℕ)
+of_node_at word.Turn node bytes = turn_at node bytes
+of_node_at word.Tick node bytes = Some (Tick node, bytes)
 
 unfoldable pub event_at : List ℕ → Option (Event × List ℕ)
 event_at bytes = do
-  turn ← text_at (codes " turn") bytes
-  turn_at turn
+  w ← word_at bytes
+  node ← word_number_at (2 ^ 32 - 1) w.1
+  of_node_at w.0 node.0 node.1
 
 unfoldable pub line_at : List ℕ → Option (Told × List ℕ)
 line_at bytes = do

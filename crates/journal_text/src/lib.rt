@@ -5,6 +5,7 @@ mod fault;
 mod field;
 mod journal;
 mod line;
+mod word;
 
 pub use fault::{JournalFault, LineFault};
 pub use journal::read_journal;

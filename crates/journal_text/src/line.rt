@@ -6,6 +6,7 @@ ghost use Rattle.journal_text.specs.Reading.{Gives, turn_at, event_at, line_at};
 
 use crate::fault::LineFault;
 use crate::field::{after, number, positive, word_number};
+use crate::word::{Word, next_word};
 use std::alloc::Global;
 use world_types::{Event, Told};
 
@@ -53,22 +54,29 @@ fn line<'a>(alloc: Global, bytes: &'a [u8]) -> Result<FirstLine<'a>, LineFault>
     })
 }
 
+/// The event whose words are at the front, each behind a space.
 #[tactic(auto, unfolding(crate::specs::Reading::event_at))]
 fn event(alloc: Global, bytes: &[u8]) -> Result<(Event, &[u8]), LineFault>
     ensures { Gives (λ x. (x.0, x.1.now)) result (event_at bytes.now) }
 {
-    turn(after(bytes, b" turn")?)
+    let (word, rest) = next_word(bytes)?;
+    let (node, rest) = word_number(rest, LARGEST_NODE)?;
+    let node = node as u32;
+    match word {
+        Word::Turn => turn(node, rest),
+        Word::Tick => Ok((Event::Tick { node }, rest)),
+    }
 }
 
+/// The turn of a node, by what stands behind the node.
 #[tactic(auto, unfolding(crate::specs::Reading::turn_at))]
-fn turn(bytes: &[u8]) -> Result<(Event, &[u8]), LineFault>
-    ensures { Gives (λ x. (x.0, x.1.now)) result (turn_at bytes.now) }
+fn turn(node: u32, bytes: &[u8]) -> Result<(Event, &[u8]), LineFault>
+    ensures { Gives (λ x. (x.0, x.1.now)) result (turn_at node bytes.now) }
 {
-    let (node, rest) = word_number(bytes, LARGEST_NODE)?;
-    let (steps, rest) = positive(rest, MOST_STEPS)?;
+    let (steps, rest) = positive(bytes, MOST_STEPS)?;
     let (reading, rest) = word_number(rest, LARGEST)?;
     let turn = Event::Turn {
-        node: node as u32,
+        node,
         steps: steps as u32,
         reading,
     };
