@@ -1,5 +1,5 @@
 -- What the rows tell of their acts, and one step more of a turn.
-use Rattle.std.proofs.Common.{◌≡◌, ◌≢◌, ◌<◌, ℕ, zero, suc, ◌+◌, List, [], ◌∷◌, Option, Some, None, slice_get, refl, sym, ◌∙◌, ap, subst, arith, append-nil, add-one}
+use Rattle.std.proofs.Common.{◌≡◌, ◌≢◌, ◌<◌, inl, inr, ℕ, ℤ, pos, zero, suc, ◌+◌, Bool, true, false, if◌then◌else◌, int_le, List, [], ◌∷◌, Option, Some, None, slice_get, refl, sym, ◌∙◌, ap, subst, arith, append-nil, add-one}
 use Rattle.clu_tree.specs.declared.value.Value.{Value}
 use Rattle.clu_tree.specs.declared.value.Value.TheVariants as value
 use Rattle.clu_tree.specs.declared.value.Addr.{Addr}
@@ -21,18 +21,26 @@ use Rattle.machine_rules.specs.declared.frame.Frame.{Frame}
 use Rattle.machine_rules.specs.declared.act.Act.{Act}
 use Rattle.machine_rules.specs.declared.act.Act.TheVariants as act
 use Rattle.machine_rules.specs.Row.{Next, World, at_line, bare_world, ends, eval, exec, fall, fall_at, leaves, line_of, row, row_at, row_of}
+use Rattle.machine_rules.specs.Typing.{FramesFit}
 use Rattle.world_types.specs.declared.effects.Effects.{Effects}
 use Rattle.world_rules.specs.Plain.{and_then, behind, join, nothing}
-use Rattle.world_rules.specs.Node.{NodeState, acted, step_of, steps}
+use Rattle.world_rules.specs.Node.{Live, NodeState, acted, ready, step_of, steps}
 use Rattle.world_rules.proofs.Erasing.{join-assoc}
 use Rattle.world_rules.proofs.Plainly.{and_then_some}
 use Rattle.node_core.specs.Kept.{state_of}
-use Rattle.node_core.specs.Acts.{IsNoted, RanTo, noted}
+use Rattle.node_core.specs.Acts.{IsNoted, RanTo, after_of, left_of, noted}
+use Rattle.node_core.specs.declared.turn.After.{After}
+use Rattle.node_core.specs.declared.turn.After.TheVariants as after
+
+pub by_test : {P : Type 0} (b : Bool) → (b ≡ true → P) → (b ≡ false → P) → P
+by_test true h k = h refl
+by_test false h k = k refl
 
 -- The act is one of this part of the language, and the process is over exactly where it ended.
 abbrev pub ActFits : Act → List Frame → Type 0
 ActFits act.Went frames = frames ≢ []
 ActFits (act.Put text) frames = frames ≢ []
+ActFits (act.Sleep ms) frames = frames ≢ []
 ActFits (act.Ended v) frames = frames ≡ []
 ActFits _ frames = ⊥
 
@@ -54,6 +62,7 @@ eval_fits w f fs work e next h = cc
 
 exec_fits : (w : World) (f : Frame) (fs : List Frame) (work : List Item) (s : sf.Stmt-F Stmt Arm Handlers TagArm When) (next : Next) → exec w f fs work s ≡ Some next → NextFits next
 exec_fits w f fs work (sf.PutLine e line) next h = same_next _ next h (full _ fs)
+exec_fits w f fs work (sf.Sleep e line) next h = same_next _ next h (full _ fs)
 exec_fits w f fs work s next h = cc
 
 ends_fits : (w : World) (left : List Addr) (v : Value) (fs : List Frame) (next : Next) → ends w left v fs ≡ Some next → NextFits next
@@ -73,11 +82,20 @@ print_fits w f fs work [] next h = cc
 print_fits w f fs work (value.Str text ∷ values) next h = same_next _ next h (full _ fs)
 print_fits w f fs work (v ∷ values) next h = cc
 
+nap_fits : (ms : ℤ) (frames : List Frame) → frames ≢ [] → ActFits (if int_le ms (pos 0) then act.Went else act.Sleep ms) frames
+nap_fits ms frames h = by_test (int_le ms (pos 0)) (λ e. rw e h) (λ e. rw e h)
+
+slept_fits : (w : World) (f : Frame) (fs : List Frame) (work : List Item) (values : List Value) (next : Next) → row_at w (record f { values = values }) fs work i.Nap ≡ Some next → NextFits next
+slept_fits w f fs work [] next h = cc
+slept_fits w f fs work (value.Int ms ∷ values) next h = same_next _ next h (nap_fits ms _ (full _ fs))
+slept_fits w f fs work (v ∷ values) next h = cc
+
 row_at_fits : (w : World) (f : Frame) (fs : List Frame) (work : List Item) (item : Item) (next : Next) → row_at w f fs work item ≡ Some next → NextFits next
 row_at_fits w f fs work (i.Eval e) next h = eval_fits w f fs work (out-Expr e) next h
 row_at_fits w f fs work i.Fall next h = fall_fits w (leaves work) fs (slice_get w.program.routines f.routine) next h
 row_at_fits w f fs work (i.Exec s) next h = exec_fits w (at_line f (line_of f.line (out-Stmt s))) fs work (out-Stmt s) next h
 row_at_fits w f fs work i.Print next h = print_fits w f fs work f.values next h
+row_at_fits w f fs work i.Nap next h = slept_fits w f fs work f.values next h
 row_at_fits w f fs work item next h = cc
 
 row_of_fits : (w : World) (f : Frame) (fs : List Frame) (work : List Item) (next : Next) → row_of w f fs work ≡ Some next → NextFits next
@@ -92,26 +110,24 @@ row_fits w (f ∷ fs) next h = row_of_fits w f fs f.work next h
 pub fits_noted : (does : Act) (frames : List Frame) → ActFits does frames → IsNoted does
 fits_noted act.Went frames h = tt
 fits_noted (act.Put text) frames h = tt
+fits_noted (act.Sleep ms) frames h = tt
 fits_noted (act.Ended v) frames h = tt
 fits_noted does frames h = h
 
--- what is left of the process
-abbrev pub left_of : List Frame → Option (List Frame)
-left_of [] = None
-left_of (f ∷ fs) = Some (f ∷ fs)
+-- the node with this process, which was picked
+abbrev running : ℕ → List Frame → ℕ → NodeState
+running n frames t = state_of n (ready 1 frames ∷ []) 1 t
 
-acted_fits : (n t : ℕ) (was frames : List Frame) (does : Act) → ActFits does frames → acted 1 (state_of n (Some was) 1 t) does frames ≡ Some (state_of n (left_of frames) 1 t, noted n does)
-acted_fits n t was [] act.Went h = absurd (h refl)
-acted_fits n t was (f ∷ fs) act.Went h = refl
-acted_fits n t was [] (act.Put text) h = absurd (h refl)
-acted_fits n t was (f ∷ fs) (act.Put text) h = refl
-acted_fits n t was [] (act.Ended v) h = refl
-acted_fits n t was (f ∷ fs) (act.Ended v) h = cc
+acted_fits : (n t : ℕ) (was frames : List Frame) (does : Act) → ActFits does frames → acted 1 (running n was t) does frames ≡ Some (state_of n (left_of (after_of t does) frames) 1 t, noted n does)
+acted_fits n t was frames act.Went h = refl
+acted_fits n t was frames (act.Put text) h = refl
+acted_fits n t was frames (act.Sleep ms) h = refl
+acted_fits n t was frames (act.Ended v) h = refl
 acted_fits n t was frames does h = elim h [ ]
 
 -- a step of the process that is kept
 pub step_fits : (program : Program) (n t : ℕ) (frames : List Frame) (next : Next) → row (bare_world program t) frames ≡ Some next →
-    step_of program 1 (state_of n (Some frames) 1 t) ≡ Some (state_of n (left_of next.frames) 1 t, noted n next.act)
+    step_of program 1 (running n frames t) ≡ Some (state_of n (left_of (after_of t next.act) next.frames) 1 t, noted n next.act)
 step_fits program n t frames next h =
     rw h (acted_fits n t frames next.frames next.act (row_fits (bare_world program t) frames next h))
 
@@ -147,36 +163,67 @@ steps_more program p (suc k) s s' s'' x y h one =
     let more = steps_more program p k first.a.0 s' s'' rest.a.1 y (rest.is ∙ ap (λ (v : NodeState). Some (v, rest.a.1)) to) one in
     rw (first.is, more) (ap (λ (z : Effects). Some (s'', z)) (sym (join-assoc first.a.1 rest.a.1 y) ∙ ap (λ (z : Effects). join z y) all))
 
--- one step more of the process that is kept
-pub run_more : (program : Program) (n t k : ℕ) (was frames : List Frame) (next : Next) (x : Effects) →
-    steps program 1 k (state_of n (Some was) 1 t) ≡ Some (state_of n (Some frames) 1 t, x) → row (bare_world program t) frames ≡ Some next →
-    steps program 1 (k + 1) (state_of n (Some was) 1 t) ≡ Some (state_of n (left_of next.frames) 1 t, join x (noted n next.act))
-run_more program n t k was frames next x h one =
-    rw add-one (steps_more program 1 k (state_of n (Some was) 1 t) (state_of n (Some frames) 1 t) (state_of n (left_of next.frames) 1 t) x (noted n next.act) h (step_fits program n t frames next one))
-
-pub left_full : (frames : List Frame) → frames ≢ [] → left_of frames ≡ Some frames
-left_full [] h = absurd (h refl)
-left_full (f ∷ fs) h = refl
-
 -- ---- what a turn has reached after one step more
 
-pub took_more : (program : Program) (n t k : ℕ) (was frames g : List Frame) (left : List Addr) (a b : Act) (x x' : Effects) →
-    steps program 1 k (state_of n (Some was) 1 t) ≡ Some (state_of n (Some frames) 1 t, x) → row (bare_world program t) frames ≡ Some (record { left = left; act = a; store = []; frames = g }) →
-    b ≡ a → x' ≡ join x (noted n b) → steps program 1 (k + 1) (state_of n (Some was) 1 t) ≡ Some (state_of n (left_of g) 1 t, x')
-took_more program n t k was frames g left a b x x' h one same noted_is =
-    run_more program n t k was frames (record { left = left; act = a; store = []; frames = g }) x h one
-    ∙ ap (λ (z : Effects). Some (state_of n (left_of g) 1 t, z)) (sym (noted_is ∙ ap (λ (d : Act). join x (noted n d)) same))
+-- so many steps of the process that is kept, and what they leave of it
+abbrev pub Took : Program → ℕ → ℕ → ℕ → List Frame → List Live → Effects → Type 0
+Took program n t k was left x = steps program 1 k (running n was t) ≡ Some (state_of n left 1 t, x)
 
-pub is_over : (program : Program) (n t k limit : ℕ) (was g : List Frame) (x : Effects) → steps program 1 (k + 1) (state_of n (Some was) 1 t) ≡ Some (state_of n (left_of g) 1 t, x) → g ≡ [] → k < limit →
-    RanTo program n was t limit (record { process = None; steps = k + 1; effects = x })
-is_over program n t k limit was g x taken over l = record {
-  taken = taken ∙ ap (λ (h : List Frame). Some (state_of n (left_of h) 1 t, x)) over;
+pub took_more : (program : Program) (n t k : ℕ) (was frames g : List Frame) (left : List Addr) (does : Act) (x x' : Effects) →
+    Took program n t k was (ready 1 frames ∷ []) x → row (bare_world program t) frames ≡ Some (record { left = left; act = does; store = []; frames = g }) →
+    x' ≡ join x (noted n does) → Took program n t (k + 1) was (left_of (after_of t does) g) x'
+took_more program n t k was frames g left does x x' h one noted_is =
+    rw (add-one, noted_is) (steps_more program 1 k (running n was t) (running n frames t) (state_of n (left_of (after_of t does) g) 1 t) x (noted n does) h
+    (step_fits program n t frames (record { left = left; act = does; store = []; frames = g }) one))
+
+-- the process goes on, and has frames
+pub on_fits : (w : World) (frames g : List Frame) (left : List Addr) (does : Act) → row w frames ≡ Some (record { left = left; act = does; store = []; frames = g }) → ActFits does g
+on_fits w frames g left does h = row_fits w frames (record { left = left; act = does; store = []; frames = g }) h
+
+ready_full : (t : ℕ) (does : Act) (g : List Frame) → ActFits does g → after_of t does ≡ after.Ready → g ≢ []
+ready_full t act.Went g h e = h
+ready_full t (act.Put text) g h e = h
+ready_full t (act.Sleep ms) g h e = cc
+ready_full t (act.Ended v) g h e = cc
+ready_full t does g h e = elim h [ ]
+
+asleep_full : (t l : ℕ) (does : Act) (g : List Frame) → ActFits does g → after_of t does ≡ after.Asleep l → g ≢ []
+asleep_full t l act.Went g h e = cc
+asleep_full t l (act.Put text) g h e = cc
+asleep_full t l (act.Sleep ms) g h e = h
+asleep_full t l (act.Ended v) g h e = cc
+asleep_full t l does g h e = elim h [ ]
+
+-- ---- what is left of a process behind a step
+
+-- a step was taken, of which this is left
+pub record Stepped (program : Program) (n t k : ℕ) (was g : List Frame) (does : Act) (x : Effects) : Type 0 where
+  pub took : Took program n t (k + 1) was (left_of (after_of t does) g) x
+  pub act : ActFits does g
+  pub fits : FramesFit program g
+
+pub goes_on : (program : Program) (n t k : ℕ) (was g : List Frame) (does : Act) (x : Effects) → Stepped program n t k was g does x → after.Ready ≡ after_of t does → Took program n t (k + 1) was (ready 1 g ∷ []) x × (g ≢ [])
+goes_on program n t k was g does x h is =
+    (subst (λ (a : After). Took program n t (k + 1) was (left_of a g) x) (sym is) h.took, ready_full t does g h.act (sym is))
+
+pub sleeps : (program : Program) (n t k limit until : ℕ) (was g : List Frame) (does : Act) (x : Effects) → Stepped program n t k was g does x → after.Asleep until ≡ after_of t does → k < limit →
+    RanTo program n was t limit (record { process = Some g; asleep = Some until; steps = k + 1; effects = x })
+sleeps program n t k limit until was g does x h is l = record {
+  taken = subst (λ (a : After). Took program n t (k + 1) was (left_of a g) x) (sym is) h.took;
   some = omega arith;
   within = omega arith;
-  early = λ h. refl;
-  fits = tt;
+  early = λ e. inr refl;
+  slept = λ e. cc;
+  fits = (h.fits, asleep_full t until does g h.act (sym is));
 }
 
-pub still_on : (program : Program) (n t k : ℕ) (was g : List Frame) (x : Effects) → steps program 1 (k + 1) (state_of n (Some was) 1 t) ≡ Some (state_of n (left_of g) 1 t, x) → g ≢ [] →
-    steps program 1 (k + 1) (state_of n (Some was) 1 t) ≡ Some (state_of n (Some g) 1 t, x)
-still_on program n t k was g x taken on = taken ∙ ap (λ (o : Option (List Frame)). Some (state_of n o 1 t, x)) (left_full g on)
+pub is_over : (program : Program) (n t k limit : ℕ) (was g : List Frame) (does : Act) (x : Effects) → Stepped program n t k was g does x → after.Over ≡ after_of t does → k < limit →
+    RanTo program n was t limit (record { process = None; asleep = None; steps = k + 1; effects = x })
+is_over program n t k limit was g does x h is l = record {
+  taken = subst (λ (a : After). Took program n t (k + 1) was (left_of a g) x) (sym is) h.took;
+  some = omega arith;
+  within = omega arith;
+  early = λ e. inl refl;
+  slept = λ e. refl;
+  fits = tt;
+}

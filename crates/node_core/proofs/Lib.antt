@@ -1,3 +1,4 @@
 pub mod Acts
+pub mod Expiring
 pub mod Starts
 pub mod Turns

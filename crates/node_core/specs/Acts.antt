@@ -47,4 +47,5 @@ pub record RanTo (program : Program) (number : ℕ) (frames : List Frame) (time 
   pub some : 1 ≤ ran.steps
   pub within : ran.steps ≤ limit
   pub early : ran.steps < limit → (ran.process ≡ None) ⊎ IsSome ran.asleep
+  pub slept : ran.process ≡ None → ran.asleep ≡ None
   pub fits : IsRunning program ran.process

@@ -46,11 +46,20 @@ IsRunning program (Some frames) = FramesFit program frames × (frames ≢ [])
 abbrev pub StartsAs : Program → Option (List Frame) → Type 0
 StartsAs program process = node_at (first_of_program program) 1 ≡ Some (state_of 1 (live process None) 0 0, [])
 
--- What a node keeps true of its parts: the queue has the limits of the process that is kept, and no other.
+-- the queue that holds this limit of the process alone
+abbrev pub queue_of : Option ℕ → List Limit
+queue_of None = []
+queue_of (Some limit) = (limit, owner.Process 1) ∷ []
+
+-- The queue has the limits of the process that is kept, and no other; the process is typed, and not over.
+pub record Holds (program : Program) (process : Option (List Frame)) (queue : List Limit) : Type 0 where
+  pub queued : queue ≡ limits (live process (own_limit queue))
+  pub running : IsRunning program process
+
+-- What a node keeps true of its parts.
 pub record Keeps (program : Program) (process : Option (List Frame)) (queue : List Limit) (spent : Bool) : Type 0 where
   pub typed : IsTyped program
-  pub queued : queue ≡ limits (live process (own_limit queue))
-  pub running : spent ≡ false → IsRunning program process
+  pub holds : spent ≡ false → Holds program process queue
 
 -- no line is marked
 abbrev pub no_marks : ℕ → Bool

@@ -1,6 +1,7 @@
 //! A node of the machine without debugger.
 #![tactic(auto)]
 
+mod limits;
 mod lines;
 mod node;
 mod start;

@@ -1,9 +1,10 @@
-ghost use Rattle.std.specs.Prelude.{◌≡◌, ◌≢◌, ◌≤◌, [], Err, Some, IfOk, true, false, is_some};
+ghost use Rattle.std.specs.Prelude.{◌≡◌, ◌≢◌, ◌≤◌, ◌<◌, ◌^◌, [], Err, Some, IfOk, true, false, is_some};
 ghost use Rattle.clu_tree.specs.Typed.{IsTyped};
 ghost use Rattle.world_rules.specs.Plain.{node_at};
-ghost use Rattle.world_rules.specs.Node.{first_of_program, picks};
-ghost use Rattle.node_core.specs.Kept.{TurnAnswers};
+ghost use Rattle.world_rules.specs.Node.{due, first_of_program, is_quiet, picks};
+ghost use Rattle.node_core.specs.Kept.{TickAnswers, TurnAnswers};
 
+use crate::limits::{expire, keep_limit};
 use crate::start::started;
 use crate::turn::{PROCESS, Ran, run};
 use clu_eval::Process;
@@ -11,6 +12,7 @@ use clu_tree::Program;
 use std::alloc::Global;
 use std::marker::Model;
 use thiserror::Error;
+use timer_queue::{Owner, TimerQueue};
 use world_types::Effects;
 
 #[derive(Debug, Drop, Error)]
@@ -29,6 +31,7 @@ pub struct Node<'p> {
     program: &'p Program,
     number: u32,
     process: Option<Process>,
+    limits: TimerQueue,
     picked: u64,
     time: u64,
     spent: bool,
@@ -43,15 +46,15 @@ impl<'p> Model for Node<'p> {
     ghost use Rattle.clu_tree.specs.contracts.tree.Arm as arm;
     ghost use Rattle.clu_tree.specs.contracts.tree.TagArm as tag_arm;
     ghost use Rattle.clu_tree.specs.contracts.tree.Handlers as handlers;
-    ghost use Rattle.node_core.specs.Kept.{Keeps, Kept, state_of};
+    ghost use Rattle.node_core.specs.Kept.{Keeps, Kept, live, own_limit, state_of};
 
     ghost Value = { Kept };
 
     ghost coded = { Prim.hlevel (codes, shape.the_row.coded, named.the_row.coded, expr.the_row.coded, stmt.the_row.coded, arm.the_row.coded, tag_arm.the_row.coded, handlers.the_row.coded) };
 
-    ghost view = { λ n. record { program = n.program.now; state = state_of n.number n.process n.picked n.time; spent = n.spent } };
+    ghost view = { λ n. record { program = n.program.now; state = state_of n.number (live n.process (own_limit n.limits)) n.picked n.time; spent = n.spent } };
 
-    ghost invariant = { λ n. Keeps n.program.now n.process n.spent };
+    ghost invariant = { λ n. Keeps n.program.now n.process n.limits n.spent };
 }
 
 impl<'p> Node<'p> {
@@ -67,10 +70,14 @@ impl<'p> Node<'p> {
         let Ok(process) = started(alloc, program) else {
             return Err(NodeFault::Memory);
         };
+        let Ok(limits) = TimerQueue::new(alloc) else {
+            return Err(NodeFault::Memory);
+        };
         Ok(Node {
             program,
             number,
             process,
+            limits,
             picked: 0,
             time: 0,
             spent: false,
@@ -80,18 +87,19 @@ impl<'p> Node<'p> {
     /// Takes the most steps of the picked process that are possible at the time `t`, in ms, and at most so many, and
     /// answers how many it took. `Illegal` comes exactly where none is possible, and changes nothing.
     pub fn turn(&mut self, alloc: Global, t: u64, most: u32) -> Result<(u32, Effects), NodeFault>
+        requires early { t < 2 ^ 62 }
         ensures answers { TurnAnswers self.old self.new t most result }
-        // A ready process can take a step.
-        ensures goes_on { self.old.spent ≡ false → 1 ≤ most → self.old.state.time ≤ t → is_some (picks self.old.state) ≡ true → result ≢ Err NodeFault.Illegal }
+        // A ready process can take a step where nothing is due.
+        ensures goes_on { self.old.spent ≡ false → 1 ≤ most → self.old.state.time ≤ t → due self.old.state t ≡ false → is_some (picks self.old.state) ≡ true → result ≢ Err NodeFault.Illegal }
     {
         if self.spent {
             return Err(NodeFault::Memory);
         }
-        if most == 0 || t < self.time {
+        if most == 0 || t < self.time || self.due(t) || !self.is_ready() {
             return Err(NodeFault::Illegal);
         }
         let Some(process) = self.process.take() else {
-            return Err(NodeFault::Illegal);
+            unreachable!();
         };
         self.spent = true;
         let Ok(ran) = run(alloc, self.program, self.number, t, most.min(64), process) else {
@@ -99,9 +107,13 @@ impl<'p> Node<'p> {
         };
         let Ran {
             process,
+            asleep,
             steps,
             effects,
         } = ran;
+        let Ok(()) = keep_limit(alloc, &mut self.limits, asleep) else {
+            return Err(NodeFault::Memory);
+        };
         self.process = process;
         self.picked = PROCESS;
         self.time = t;
@@ -109,10 +121,48 @@ impl<'p> Node<'p> {
         Ok((steps, effects))
     }
 
+    /// Advances the node to the time `t`, in ms: all limits at or before it expire, in their order. `Illegal` comes
+    /// exactly where `t` is below the node's time or no limit is due, and changes nothing.
+    pub fn tick(&mut self, alloc: Global, t: u64) -> Result<Effects, NodeFault>
+        ensures answers { TickAnswers self.old self.new t result }
+        ensures possible { self.old.spent ≡ false → self.old.state.time ≤ t → due self.old.state t ≡ true → result ≢ Err NodeFault.Illegal }
+    {
+        if self.spent {
+            return Err(NodeFault::Memory);
+        }
+        if t < self.time || !self.due(t) {
+            return Err(NodeFault::Illegal);
+        }
+        self.spent = true;
+        let Ok(effects) = expire(alloc, &mut self.limits, t) else {
+            return Err(NodeFault::Memory);
+        };
+        self.time = t;
+        self.spent = false;
+        Ok(effects)
+    }
+
+    /// Whether some limit is at or before the time `t`, in ms.
+    pub fn due(&self, t: u64) -> bool
+        ensures { self.now.spent ≡ false → result ≡ due self.now.state t }
+    {
+        match self.limits.first() {
+            Some((limit, _)) => limit <= t,
+            None => false,
+        }
+    }
+
     /// Whether some process is ready.
     pub fn is_ready(&self) -> bool
         ensures { result ≡ is_some (picks self.now.state) }
     {
-        self.process.is_some()
+        self.process.is_some() && self.limits.limit(Owner::Process(PROCESS)).is_none()
+    }
+
+    /// Whether no process is ready and no limit stands.
+    pub fn quiet(&self) -> bool
+        ensures { self.now.spent ≡ false → result ≡ is_quiet self.now.state }
+    {
+        !self.is_ready() && self.limits.first().is_none()
     }
 }
