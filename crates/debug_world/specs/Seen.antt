@@ -2,7 +2,7 @@
 use Rattle.std.specs.Prelude.{◌≡◌, ℕ, ◌≤◌, Bool, true, false, List, [], ◌∷◌, ◌++◌, reverse, Some, Result, Ok, Err}
 use Rattle.clu_tree.specs.declared.program.Program.{Program}
 use Rattle.world_types.specs.declared.event.Event.{Event}
-use Rattle.world_types.specs.declared.event.Event.TheVariants.{Turn}
+use Rattle.world_types.specs.declared.event.Event.TheVariants.{Turn, Tick}
 use Rattle.world_types.specs.declared.event.Told.{Told}
 use Rattle.world_types.specs.declared.effects.Sent.{Sent}
 use Rattle.world_types.specs.declared.effects.Effects.{Effects}
@@ -21,20 +21,29 @@ pub record Seen : Type 0 where
   pub list : List Told
   pub spent : Bool
 
--- a turn of 1 to 64 steps: the only event that can be applied yet
-abbrev pub IsTurn : Event → Type 0
-IsTurn (Turn node steps reading) = (1 ≤ steps) × (steps ≤ 64)
-IsTurn _ = ⊥
+-- what can be applied yet: a turn of 1 to 64 steps, or a tick
+abbrev pub MayBeApplied : Event → Type 0
+MayBeApplied (Turn node steps reading) = (1 ≤ steps) × (steps ≤ 64)
+MayBeApplied (Tick node) = Unit {0}
+MayBeApplied _ = ⊥
 
 abbrev pub turned : ℕ → ℕ → ℕ → ℕ → Told
 turned stamp node steps reading = record { stamp = stamp; event = Turn node steps reading }
 
+abbrev pub ticked : ℕ → ℕ → Told
+ticked stamp node = record { stamp = stamp; event = Tick node }
+
 -- ---- what a world keeps true of its parts
 
--- each is a turn of the node 1
-abbrev pub AreTurns : List Told → Type 0
-AreTurns [] = Unit {0}
-AreTurns (e ∷ past) = ((k : ℕ) × (r : ℕ) × (e.event ≡ Turn 1 k r)) × AreTurns past
+-- a turn or a tick of the node 1
+abbrev pub IsOwn : Event → Type 0
+IsOwn (Turn node steps reading) = node ≡ 1
+IsOwn (Tick node) = node ≡ 1
+IsOwn _ = ⊥
+
+abbrev pub AreOwn : List Told → Type 0
+AreOwn [] = Unit {0}
+AreOwn (e ∷ past) = IsOwn e.event × AreOwn past
 
 -- the node is what the machine without debugger leaves after the list
 pub record Leaves (node : Kept) (list : List Told) (last : ℕ) : Type 0 where
@@ -45,7 +54,7 @@ pub record Leaves (node : Kept) (list : List Told) (last : ℕ) : Type 0 where
   pub early : node.state.time ≤ last
 
 pub record Keeps (node : Kept) (list : List Told) (last : ℕ) (spent : Bool) : Type 0 where
-  pub turns : AreTurns (reverse list)
+  pub own : AreOwn (reverse list)
   pub leaves : spent ≡ false → (last_stamp (reverse list) ≡ last) × Leaves node list last
 
 -- ---- what applying an event answers

@@ -9,6 +9,8 @@ pub const STAMP_RISES: u8 = 1;
 pub const NAMES_NODES: u8 = 3;
 /// The reading is at least the node's last stamp, and at most this stamp.
 pub const READS_IN_TIME: u8 = 10;
+/// For a turn, no limit is due at its reading; for a tick, some limit is due at its stamp.
+pub const IS_DUE: u8 = 11;
 /// Some process is ready.
 pub const HAS_READY: u8 = 12;
 

@@ -4,5 +4,5 @@
 mod conditions;
 mod world;
 
-pub use conditions::{HAS_READY, NAMES_NODES, READS_IN_TIME, STAMP_RISES};
+pub use conditions::{HAS_READY, IS_DUE, NAMES_NODES, READS_IN_TIME, STAMP_RISES};
 pub use world::{DebugWorld, WorldFault};

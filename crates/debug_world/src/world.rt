@@ -1,11 +1,11 @@
-ghost use Rattle.std.specs.Prelude.{◌≡◌, ◌≢◌, ◌≤◌, ◌∷◌, [], ℕ, Err, IfOk, false, reverse};
+ghost use Rattle.std.specs.Prelude.{◌≡◌, ◌≢◌, ◌≤◌, ◌<◌, ◌^◌, ◌∷◌, [], ℕ, Err, IfOk, false, reverse};
 ghost use Rattle.clu_tree.specs.Typed.{IsTyped};
 ghost use Rattle.world_rules.specs.Legal.{first_failing, first_of};
 ghost use Rattle.world_rules.specs.Node.{first_of_program, rules_of};
-ghost use Rattle.debug_world.specs.Seen.{AnswersTo, IsTurn, turned};
+ghost use Rattle.debug_world.specs.Seen.{AnswersTo, MayBeApplied, ticked, turned};
 
 use crate::conditions::{
-    HAS_READY, NAMES_NODES, READS_IN_TIME, STAMP_RISES, first_failing_of, is_between,
+    HAS_READY, IS_DUE, NAMES_NODES, READS_IN_TIME, STAMP_RISES, first_failing_of, is_between,
 };
 use clu_tree::Program;
 use node_core::{Node, NodeFault};
@@ -72,10 +72,11 @@ impl<'p> DebugWorld<'p> {
         })
     }
 
-    /// Applies a turn, whose steps are the most that it may take, where it is legal after the list so far, and gives
-    /// its entry. `Illegal` has the number of the first condition that fails, and changes nothing.
+    /// Applies a turn, whose steps are the most that it may take, or a tick, where it is legal after the list so far,
+    /// and gives its entry. `Illegal` has the number of the first condition that fails, and changes nothing.
     pub fn apply(&mut self, alloc: Global, told: &Told) -> Result<Entry, WorldFault>
-        requires { IsTurn told.now.event }
+        requires event { MayBeApplied told.now.event }
+        requires early { told.now.stamp < 2 ^ 62 }
         ensures { AnswersTo self.old self.new told.now result }
     {
         match &told.event {
@@ -84,6 +85,7 @@ impl<'p> DebugWorld<'p> {
                 steps,
                 reading,
             } => self.turn(alloc, told.stamp, *node, *steps, *reading),
+            Event::Tick { node } => self.tick(alloc, told.stamp, *node),
             _ => unreachable!(),
         }
     }
@@ -99,12 +101,13 @@ impl<'p> DebugWorld<'p> {
     ) -> Result<Entry, WorldFault>
         requires some { 1 ≤ steps }
         requires few { steps ≤ 64 }
+        requires early { stamp < 2 ^ 62 }
         ensures { AnswersTo self.old self.new (turned stamp node steps reading) result }
     {
         if self.spent {
             return Err(WorldFault::Memory);
         }
-        if let Some(number) = self.refusal(stamp, node, reading) {
+        if let Some(number) = self.turn_refusal(stamp, node, reading) {
             return Err(WorldFault::Illegal(number));
         }
         self.spent = true;
@@ -137,8 +140,39 @@ impl<'p> DebugWorld<'p> {
         })
     }
 
+    /// Applies a tick.
+    fn tick(&mut self, alloc: Global, stamp: u64, node: u32) -> Result<Entry, WorldFault>
+        ensures { AnswersTo self.old self.new (ticked stamp node) result }
+    {
+        if self.spent {
+            return Err(WorldFault::Memory);
+        }
+        if let Some(number) = self.tick_refusal(stamp, node) {
+            return Err(WorldFault::Illegal(number));
+        }
+        self.spent = true;
+        let effects = match self.node.tick(alloc, stamp) {
+            Ok(effects) => effects,
+            Err(NodeFault::Illegal) => unreachable!(),
+            Err(NodeFault::Memory) => return Err(WorldFault::Memory),
+        };
+        let Ok(()) = self.list.push(Told {
+            stamp,
+            event: Event::Tick { node },
+        }) else {
+            return Err(WorldFault::Memory);
+        };
+        self.last = stamp;
+        self.spent = false;
+        Ok(Entry {
+            stamp,
+            event: Event::Tick { node },
+            effects,
+        })
+    }
+
     /// The number of the first condition that refuses a turn.
-    fn refusal(&self, stamp: u64, node: u32, reading: u64) -> Option<u8>
+    fn turn_refusal(&self, stamp: u64, node: u32, reading: u64) -> Option<u8>
         requires { self.now.spent ≡ false }
         ensures { (steps : ℕ) → result ≡ first_failing (rules_of self.now.program) (first_of_program self.now.program) (reverse self.now.list) (turned stamp node steps reading) }
     {
@@ -146,7 +180,20 @@ impl<'p> DebugWorld<'p> {
             (STAMP_RISES, self.last <= stamp),
             (NAMES_NODES, node == 1),
             (READS_IN_TIME, is_between(self.last, reading, stamp)),
+            (IS_DUE, !self.node.due(reading)),
             (HAS_READY, self.node.is_ready()),
+        ])
+    }
+
+    /// The number of the first condition that refuses a tick.
+    fn tick_refusal(&self, stamp: u64, node: u32) -> Option<u8>
+        requires { self.now.spent ≡ false }
+        ensures { result ≡ first_failing (rules_of self.now.program) (first_of_program self.now.program) (reverse self.now.list) (ticked stamp node) }
+    {
+        first_failing_of(&[
+            (STAMP_RISES, self.last <= stamp),
+            (NAMES_NODES, node == 1),
+            (IS_DUE, self.node.due(stamp)),
         ])
     }
 }

@@ -1,0 +1,11 @@
+use Rattle.std.proofs.Common.{sym, ap, ◌∙◌}
+use Rattle.debug_world.specs.Seen.{Seen}
+use Rattle.debug_world.proofs.Adding.{turn_refusal_is, unspent_node}
+use Rattle.debug_world.proofs.world.DebugWorld.turn_refusal.Goals as goal
+
+pub returns : goal.returns
+returns c = λ steps.
+    let i = c.self.inside in
+    let free = unspent_node i.node i.list i.last i.spent c.self.invariant (ap (λ (w : Seen). w.spent) c.self.view_is ∙ c.requires) in
+    turn_refusal_is c.args.self.now i.node i.list i.last i.spent c.args.stamp c.args.node c.args.reading steps c.first_failing_of.result c.self.view_is c.requires c.self.invariant
+    (rw (c.is_between.ensures, c.due.ensures free, c.is_ready.ensures) at c.first_failing_of.ensures)
