@@ -2,9 +2,8 @@
 
 ghost use Rattle.std.specs.Prelude.{◌≡◌, ◌≤◌, ◌↔◌, ℕ, List, length, IfOk, IsTrue, OnOk, OnErr, All};
 ghost use Rattle.clu_tree.specs.Grammar.{Reads, IsRead};
-ghost use Rattle.clu_tree.specs.Typed.{ExprHas, IsTyped, IsTypedStmt, IsTypedNode, IsTypedPart, AreNumbered, HasRoutine, IsAccepted};
+ghost use Rattle.clu_tree.specs.Typed.{ExprHas, IsTyped, IsTypedStmt, IsTypedPart, HasRoutine, IsAccepted};
 ghost use Rattle.clu_tree.specs.declared.shape.Shape.TheVariants as shape;
-ghost use Rattle.clu_tree.specs.declared.program.Routine.{Routine};
 ghost use Rattle.clu_tree.specs.declared.program.Program.{Program};
 ghost use Rattle.clu_reader.specs.Parts.{HasTypedBody, HasTypedNode};
 
