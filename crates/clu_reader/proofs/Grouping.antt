@@ -1,17 +1,18 @@
 -- Expressions and their brackets.
-use Rattle.std.proofs.Common.{◌≡◌, ℕ, zero, suc, ◌+◌, ◌-◌, ◌<◌, ◌≤◌, List, ◌∷◌, length, Some, None, refl, sym, ap, ◌∙◌, subst, arith}
+use Rattle.std.proofs.Common.{◌≡◌, ℕ, zero, suc, ◌+◌, ◌-◌, ◌<◌, ◌≤◌, ◌∷◌, length, Some, None, refl, sym, ap, ◌∙◌, subst, arith}
 use Rattle.clu_tree.specs.declared.lexeme.Key.TheVariants as key
 use Rattle.clu_tree.specs.declared.lexeme.Lexeme.TheVariants as lexeme
 use Rattle.clu_tree.specs.declared.value.Value.{Value}
 use Rattle.clu_tree.specs.declared.value.Value.TheVariants as v
 use Rattle.clu_tree.specs.declared.tree.Expr.{Expr}
 use Rattle.clu_tree.specs.declared.tree.Expr.TheVariants as e
-use Rattle.clu_tree.specs.Grammar.{Tokens, ReadsLiteral, ReadsExpr, ReadsPrimary, primary, alone, literal, group, string}
-use Rattle.clu_reader.specs.Plan.{Found, closed, bracketed}
+use Rattle.clu_tree.specs.Grammar.{Tokens, ReadsLiteral, ReadsExpr, ReadsPrimary, primary, alone, literal, group, string, int}
+use Rattle.clu_reader.specs.Plan.{Found, literal_at, closed, bracketed}
 
 mutual
   primary-found : (n : ℕ) (ts q : Tokens) (x : Expr) → ReadsPrimary ts q x → bracketed n ts ≡ closed n x q
   primary-found n _ q _ (literal string) = refl
+  primary-found n _ q _ (literal int) = refl
   primary-found n _ q x (group {k = k} {m = m} d) = expr-found 5 (suc n) m (lexeme.Key key.RParen k ∷ q) x d
 
   -- An expression is found behind so many brackets.
@@ -34,6 +35,7 @@ read_inside n (lexeme.Key key.LParen l ∷ ts) y h =
     let b = closes n w.0 w.1 y w.3 in
     (w.0, b.1, group (any_level 5 ts (lexeme.Key key.RParen b.0 ∷ b.1) w.0 (subst (λ q. ReadsPrimary ts q w.0) b.2 w.2)), b.3)
 read_inside n (lexeme.Str x l ∷ ts) y h = (e.Literal (v.Str x) l, ts, literal string, h)
+read_inside n (lexeme.Int i l ∷ ts) y h = (e.Literal (v.Int i) l, ts, literal int, h)
 read_inside n _ y h = absurd cc
 
 -- what was read, and what follows
@@ -74,36 +76,44 @@ closed-all n t x ts h = let done : n - t ≡ 0 = omega arith in rw done refl
 
 -- ---- where no expression is
 
-pub bracketed-none : (n : ℕ) (ts : Tokens) → ((l : ℕ) (r : Tokens) → ts ≡ lexeme.Key key.LParen l ∷ r → ⊥) → ((x : List ℕ) (l : ℕ) (r : Tokens) → ts ≡ lexeme.Str x l ∷ r → ⊥) → bracketed n ts ≡ None
+none_some : (y : Expr × Tokens) → ◌≡◌ {A = Found Expr} None (Some y) → ⊥
+none_some y h = absurd cc
+
+-- neither a bracket nor a literal
+bracketed-none : (n : ℕ) (ts : Tokens) → ((l : ℕ) (r : Tokens) → ts ≡ lexeme.Key key.LParen l ∷ r → ⊥) → literal_at ts ≡ None → bracketed n ts ≡ None
 bracketed-none n (lexeme.Key key.LParen l ∷ ts) h k = absurd (h l ts refl)
-bracketed-none n (lexeme.Str x l ∷ ts) h k = absurd (k x l ts refl)
+bracketed-none n (lexeme.Str x l ∷ ts) h k = absurd (none_some (e.Literal (v.Str x) l, ts) (sym k))
+bracketed-none n (lexeme.Int i l ∷ ts) h k = absurd (none_some (e.Literal (v.Int i) l, ts) (sym k))
 bracketed-none n _ h k = refl
 
-pub no_expr : (ts : Tokens) → bracketed 0 ts ≡ None → (x : Expr) (r : Tokens) → ReadsExpr 5 ts r x → ⊥
+-- a literal is what stands in the brackets
+bracketed-literal : (n : ℕ) (ts rest : Tokens) (x : Expr) → literal_at ts ≡ Some (x, rest) → bracketed n ts ≡ closed n x rest
+bracketed-literal n (lexeme.Str c l ∷ ts) rest x h = let same = found_parts (e.Literal (v.Str c) l) x ts rest h in ap (λ (z : Expr). closed n z ts) same.0 ∙ ap (closed n x) same.1
+bracketed-literal n (lexeme.Int i l ∷ ts) rest x h = let same = found_parts (e.Literal (v.Int i) l) x ts rest h in ap (λ (z : Expr). closed n z ts) same.0 ∙ ap (closed n x) same.1
+bracketed-literal n _ rest x h = absurd cc
+
+no_expr : (ts : Tokens) → bracketed 0 ts ≡ None → (x : Expr) (r : Tokens) → ReadsExpr 5 ts r x → ⊥
 no_expr ts none x r d = let found = expr-found 5 0 ts r x d in absurd (none_some (x, r) (sym none ∙ found))
-  where
-    none_some : (y : Expr × Tokens) → ◌≡◌ {A = Found Expr} None (Some y) → ⊥
-    none_some y h = absurd cc
 
 -- ---- an expression that was read, or wasn't
 
--- behind the opening brackets a string stands, and the closing ones follow it
-pub expr-read : (ts inner rest r : Tokens) (n l : ℕ) (content : List ℕ) → bracketed 0 ts ≡ bracketed n inner → inner ≡ lexeme.Str content l ∷ rest →
-    ((x : Expr) → closed n x rest ≡ Some (x, r)) → ReadsExpr 5 ts r (e.Literal (v.Str content) l)
-expr-read ts inner rest r n l content opens text closing =
-    found-expr ts r (e.Literal (v.Str content) l) (opens ∙ (ap (bracketed n) text ∙ closing (e.Literal (v.Str content) l)))
+-- behind the opening brackets a literal stands, and the closing ones follow it
+pub expr-read : (ts inner rest r : Tokens) (n : ℕ) (x : Expr) → bracketed 0 ts ≡ bracketed n inner → literal_at inner ≡ Some (x, rest) →
+    ((y : Expr) → closed n y rest ≡ Some (y, r)) → ReadsExpr 5 ts r x
+expr-read ts inner rest r n x opens found closing = found-expr ts r x (opens ∙ (bracketed-literal n inner rest x found ∙ closing x))
 
-pub no_string : (ts inner : Tokens) (n : ℕ) → bracketed 0 ts ≡ bracketed n inner → ((l : ℕ) (r : Tokens) → inner ≡ lexeme.Key key.LParen l ∷ r → ⊥) →
-    ((x : List ℕ) (l : ℕ) (r : Tokens) → inner ≡ lexeme.Str x l ∷ r → ⊥) → (x : Expr) (r : Tokens) → ReadsExpr 5 ts r x → ⊥
-no_string ts inner n opens all none = no_expr ts (opens ∙ bracketed-none n inner all none)
+pub no_literal : (ts inner : Tokens) (n : ℕ) → bracketed 0 ts ≡ bracketed n inner → ((l : ℕ) (r : Tokens) → inner ≡ lexeme.Key key.LParen l ∷ r → ⊥) →
+    literal_at inner ≡ None → (x : Expr) (r : Tokens) → ReadsExpr 5 ts r x → ⊥
+no_literal ts inner n opens all none = no_expr ts (opens ∙ bracketed-none n inner all none)
 
-pub not_closed : (ts inner rest : Tokens) (n l : ℕ) (content : List ℕ) → bracketed 0 ts ≡ bracketed n inner → inner ≡ lexeme.Str content l ∷ rest →
-    ((x : Expr) → closed n x rest ≡ None) → (x : Expr) (r : Tokens) → ReadsExpr 5 ts r x → ⊥
-not_closed ts inner rest n l content opens text none = no_expr ts (opens ∙ (ap (bracketed n) text ∙ none (e.Literal (v.Str content) l)))
+pub not_closed : (ts inner rest : Tokens) (n : ℕ) (x : Expr) → bracketed 0 ts ≡ bracketed n inner → literal_at inner ≡ Some (x, rest) →
+    ((y : Expr) → closed n y rest ≡ None) → (y : Expr) (r : Tokens) → ReadsExpr 5 ts r y → ⊥
+not_closed ts inner rest n x opens found none = no_expr ts (opens ∙ (bracketed-literal n inner rest x found ∙ none x))
 
 mutual
   primary-shrinks : (ts r : Tokens) (x : Expr) → ReadsPrimary ts r x → length r < length ts
   primary-shrinks _ r _ (literal string) = omega arith
+  primary-shrinks _ r _ (literal int) = omega arith
   primary-shrinks _ r x (group {k = k} {m = m} d) = let ih = expr-shrinks 5 m (lexeme.Key key.RParen k ∷ r) x d in omega arith
 
   -- An expression has a token at least.
@@ -118,10 +128,10 @@ grouped m r l k x d = any_level 5 (lexeme.Key key.LParen l ∷ m) r x (group d)
 
 ungrouped_primary : (m r : Tokens) (l : ℕ) (x : Expr) → ReadsPrimary (lexeme.Key key.LParen l ∷ m) r x → (k : ℕ) × ReadsExpr 5 m (lexeme.Key key.RParen k ∷ r) x
 ungrouped_primary m r l x (group {k = k} d) = (k, d)
-ungrouped_primary m r l _ (literal {x = x} d) = absurd (no_literal m r l x d)
+ungrouped_primary m r l _ (literal {x = x} d) = absurd (bracket_apart m r l x d)
   where
-    no_literal : (m r : Tokens) (l : ℕ) (x : Value) → ReadsLiteral (lexeme.Key key.LParen l ∷ m) r x → ⊥
-    no_literal m r l x d = elim d [ ]
+    bracket_apart : (m r : Tokens) (l : ℕ) (x : Value) → ReadsLiteral (lexeme.Key key.LParen l ∷ m) r x → ⊥
+    bracket_apart m r l x d = elim d [ ]
 
 pub ungrouped : (j : ℕ) (m r : Tokens) (l : ℕ) (x : Expr) → ReadsExpr j (lexeme.Key key.LParen l ∷ m) r x → (k : ℕ) × ReadsExpr 5 m (lexeme.Key key.RParen k ∷ r) x
 ungrouped _ m r l x (primary d) = ungrouped_primary m r l x d

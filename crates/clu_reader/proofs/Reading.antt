@@ -18,10 +18,10 @@ use Rattle.clu_tree.specs.declared.program.Equate.{Equate}
 use Rattle.clu_tree.specs.declared.program.NodeVar.{NodeVar}
 use Rattle.clu_tree.specs.declared.program.Cluster.{Cluster}
 use Rattle.clu_tree.specs.declared.program.Program.{Program}
-use Rattle.clu_tree.specs.Grammar.{Tokens, ReadsExpr, ReadsStmt, ReadsSimple, ReadsBody, ReadsParams, ReadsResult, ReadsSignals, ReadsRoutine, ReadsValues, ReadsNodeParts, ReadsNode, ReadsProgram, program_of, simple, put_line, body_end, body}
+use Rattle.clu_tree.specs.Grammar.{Tokens, ReadsExpr, ReadsStmt, ReadsSimple, ReadsBody, ReadsParams, ReadsResult, ReadsSignals, ReadsRoutine, ReadsValues, ReadsNodeParts, ReadsNode, ReadsProgram, program_of, simple, put_line, sleep, body_end, body}
 use Rattle.clu_tree.specs.Grammar as grammar
 use Rattle.std.proofs.lemmas.List.{append-nil, nil_from_length}
-use Rattle.clu_reader.specs.Plan.{HasKeys, BeginsWith, ReadsStart, ReadsRoutines, no_routine, a_routine}
+use Rattle.clu_reader.specs.Plan.{HasKeys, BeginsWith, Takes, ReadsStart, ReadsRoutines, no_routine, a_routine}
 use Rattle.clu_reader.proofs.Joining.{Joins}
 use Rattle.clu_reader.proofs.Joining.{joins-none, joins-more}
 use Rattle.clu_reader.proofs.Grouping.{grouped, ungrouped, one_expr, expr-shrinks}
@@ -40,56 +40,88 @@ one_keys (k ∷ ks) ts q r a b =
 
 -- ---- statements
 
--- what a statement's tokens are
-pub record Printed (ts r : Tokens) (x : Stmt) : Type 0 where
-  pub line : ℕ
-  pub behind : Tokens
-  pub text : Expr
-  pub begins : ts ≡ lexeme.Key key.PutLine line ∷ behind
-  pub opens : BeginsWith key.LParen behind
-  pub read : ReadsExpr 5 behind r text
-  pub is : x ≡ st.PutLine text line
+-- what stands behind the key
+taken : (k : Key) (ts r : Tokens) (x : Expr) (l : ℕ) → Takes k ts r x l → (o : ℕ) × (j : ℕ) × (m : Tokens) × (ts ≡ lexeme.Key k l ∷ lexeme.Key key.LParen o ∷ m) × ReadsExpr 5 m (lexeme.Key key.RParen j ∷ r) x
+taken k ts r x l t =
+    let inner = ungrouped 5 t.opens.1 r t.opens.0 x (subst (λ m. ReadsExpr 5 m r x) t.opens.2 t.read) in
+    (t.opens.0, inner.0, t.opens.1, t.begins ∙ ap (λ (z : Tokens). lexeme.Key k l ∷ z) t.opens.2, inner.1)
 
-pub printed : (ts r : Tokens) (x : Stmt) → ReadsStmt ts r x → Printed ts r x
-printed _ r _ (simple (put_line {l = l} {k = k} {j = j} {m = m} {a = a} d)) = record {
-  line = l;
-  behind = lexeme.Key key.LParen k ∷ m;
-  text = a;
-  begins = refl;
-  opens = (k, m, refl);
-  read = grouped m r k j a d;
-  is = refl;
-}
+takes-made : (k : Key) (m r : Tokens) (x : Expr) (l o j : ℕ) → ReadsExpr 5 m (lexeme.Key key.RParen j ∷ r) x → Takes k (lexeme.Key k l ∷ lexeme.Key key.LParen o ∷ m) r x l
+takes-made k m r x l o j d = record { behind = lexeme.Key key.LParen o ∷ m; begins = refl; opens = (o, m, refl); read = grouped m r o j x d }
 
-pub stmt-read : (ts r : Tokens) (x : Stmt) → Printed ts r x → ReadsStmt ts r x
-stmt-read ts r x p =
-    let inner = ungrouped 5 p.opens.1 r p.opens.0 p.text (subst (λ m. ReadsExpr 5 m r p.text) p.opens.2 p.read) in
-    let whole : ReadsStmt (lexeme.Key key.PutLine p.line ∷ lexeme.Key key.LParen p.opens.0 ∷ p.opens.1) r (st.PutLine p.text p.line) = simple (put_line inner.1) in
-    let shape : ts ≡ lexeme.Key key.PutLine p.line ∷ lexeme.Key key.LParen p.opens.0 ∷ p.opens.1 = p.begins ∙ ap (λ (z : Tokens). lexeme.Key key.PutLine p.line ∷ z) p.opens.2 in
-    subst (λ z. ReadsStmt z r x) (sym shape) (subst (λ z. ReadsStmt (lexeme.Key key.PutLine p.line ∷ lexeme.Key key.LParen p.opens.0 ∷ p.opens.1) r z) (sym p.is) whole)
-
-pub one_stmt : (ts q r : Tokens) (x y : Stmt) → ReadsStmt ts q x → ReadsStmt ts r y → (x ≡ y) × (q ≡ r)
-one_stmt ts q r x y a b =
-    let p = printed ts q x a in
-    let s = printed ts r y b in
-    let front = one_front _ _ _ _ (sym p.begins ∙ s.begins) in
-    let same = one_expr 5 p.behind q r p.text s.text p.read (subst (λ m. ReadsExpr 5 m r s.text) (sym front.1) s.read) in
+-- tokens begin with one key and one argument at most
+one_takes : (j k : Key) (ts q r : Tokens) (x y : Expr) (l m : ℕ) → Takes j ts q x l → Takes k ts r y m → (j ≡ k) × (x ≡ y) × (l ≡ m) × (q ≡ r)
+one_takes j k ts q r x y l m s t =
+    let front = one_front _ _ _ _ (sym s.begins ∙ t.begins) in
+    let same = one_expr 5 s.behind q r x y s.read (subst (λ b. ReadsExpr 5 b r y) (sym front.1) t.read) in
     let head = front.0 in
-    let line : p.line ≡ s.line = cc in
-    (p.is ∙ (ap (λ z. st.PutLine z p.line) same.0 ∙ ap (λ z. st.PutLine s.text z) line) ∙ sym s.is, same.1)
+    (cc, same.0, cc, same.1)
 
-pub stmt-shrinks : (ts r : Tokens) (x : Stmt) → Printed ts r x → length r < length ts
-stmt-shrinks ts r x p =
-    let inner = expr-shrinks 5 p.behind r p.text p.read in
-    let size = ap length p.begins in
+pub takes-shrinks : (k : Key) (ts r : Tokens) (x : Expr) (l : ℕ) → Takes k ts r x l → length r < length ts
+takes-shrinks k ts r x l t =
+    let inner = expr-shrinks 5 t.behind r x t.read in
+    let size = ap length t.begins in
     omega arith
 
--- behind `put_line` no text in brackets stands
-pub no_text : (ts behind : Tokens) (l : ℕ) → ts ≡ lexeme.Key key.PutLine l ∷ behind → ((x : Expr) (r : Tokens) → ReadsExpr 5 behind r x → ⊥) → (x : Stmt) (r : Tokens) → ReadsStmt ts r x → ⊥
-no_text ts behind l begins none x r d =
-    let p = printed ts r x d in
-    let front = one_front _ _ _ _ (sym p.begins ∙ begins) in
-    none p.text r (subst (λ m. ReadsExpr 5 m r p.text) front.1 p.read)
+-- behind the key no expression in brackets stands
+pub no_argument : (k : Key) (ts behind : Tokens) (m : ℕ) → ts ≡ lexeme.Key k m ∷ behind → ((x : Expr) (r : Tokens) → ReadsExpr 5 behind r x → ⊥) →
+    (x : Expr) (l : ℕ) (r : Tokens) → Takes k ts r x l → ⊥
+no_argument k ts behind m begins none x l r t =
+    let front = one_front _ _ _ _ (sym t.begins ∙ begins) in
+    none x r (subst (λ b. ReadsExpr 5 b r x) front.1 t.read)
+
+-- what a statement's tokens are
+pub data Stated (ts r : Tokens) : Stmt → Type 0 where
+  prints : {x : Expr} {l : ℕ} → Takes key.PutLine ts r x l → Stated ts r (st.PutLine x l)
+  sleeps : {x : Expr} {l : ℕ} → Takes key.Sleep ts r x l → Stated ts r (st.Sleep x l)
+
+stated : (ts r : Tokens) (x : Stmt) → ReadsStmt ts r x → Stated ts r x
+stated _ r _ (simple (put_line {l = l} {k = k} {j = j} {m = m} {a = a} d)) = prints (takes-made key.PutLine m r a l k j d)
+stated _ r _ (simple (sleep {l = l} {k = k} {j = j} {m = m} {a = a} d)) = sleeps (takes-made key.Sleep m r a l k j d)
+
+pub print-read : (ts r : Tokens) (x : Expr) (l : ℕ) → Takes key.PutLine ts r x l → ReadsStmt ts r (st.PutLine x l)
+print-read ts r x l t = let w = taken key.PutLine ts r x l t in subst (λ z. ReadsStmt z r (st.PutLine x l)) (sym w.3) (simple (put_line w.4))
+
+pub sleep-read : (ts r : Tokens) (x : Expr) (l : ℕ) → Takes key.Sleep ts r x l → ReadsStmt ts r (st.Sleep x l)
+sleep-read ts r x l t = let w = taken key.Sleep ts r x l t in subst (λ z. ReadsStmt z r (st.Sleep x l)) (sym w.3) (simple (sleep w.4))
+
+print_apart : (ts q r : Tokens) (x y : Expr) (l m : ℕ) → Takes key.PutLine ts q x l → Takes key.Sleep ts r y m → ⊥
+print_apart ts q r x y l m s t = let same = (one_takes key.PutLine key.Sleep ts q r x y l m s t).0 in absurd cc
+
+one_print : (ts q r : Tokens) (x : Expr) (l : ℕ) (y : Stmt) → Takes key.PutLine ts q x l → Stated ts r y → (st.PutLine x l ≡ y) × (q ≡ r)
+one_print ts q r x l _ s (prints {x = y} {l = m} t) =
+    let same = one_takes key.PutLine key.PutLine ts q r x y l m s t in
+    (ap (λ (z : Expr). st.PutLine z l) same.1 ∙ ap (λ (z : ℕ). st.PutLine y z) same.2, same.3)
+one_print ts q r x l _ s (sleeps {x = y} {l = m} t) = absurd (print_apart ts q r x y l m s t)
+
+one_sleep : (ts q r : Tokens) (x : Expr) (l : ℕ) (y : Stmt) → Takes key.Sleep ts q x l → Stated ts r y → (st.Sleep x l ≡ y) × (q ≡ r)
+one_sleep ts q r x l _ s (sleeps {x = y} {l = m} t) =
+    let same = one_takes key.Sleep key.Sleep ts q r x y l m s t in
+    (ap (λ (z : Expr). st.Sleep z l) same.1 ∙ ap (λ (z : ℕ). st.Sleep y z) same.2, same.3)
+one_sleep ts q r x l _ s (prints {x = y} {l = m} t) = absurd (print_apart ts r q y x m l t s)
+
+one_stated : (ts q r : Tokens) (x y : Stmt) → Stated ts q x → Stated ts r y → (x ≡ y) × (q ≡ r)
+one_stated ts q r _ y (prints {x = x} {l = l} s) t = one_print ts q r x l y s t
+one_stated ts q r _ y (sleeps {x = x} {l = l} s) t = one_sleep ts q r x l y s t
+
+pub one_stmt : (ts q r : Tokens) (x y : Stmt) → ReadsStmt ts q x → ReadsStmt ts r y → (x ≡ y) × (q ≡ r)
+one_stmt ts q r x y a b = one_stated ts q r x y (stated ts q x a) (stated ts r y b)
+
+-- behind `sleep` no expression in brackets stands
+pub no_sleep : (ts : Tokens) → BeginsWith key.Sleep ts → ((x : Expr) (l : ℕ) (r : Tokens) → Takes key.Sleep ts r x l → ⊥) → (y : Stmt) (r : Tokens) → ReadsStmt ts r y → ⊥
+no_sleep ts begins none y r d = unstated ts r y begins none (stated ts r y d)
+  where
+    unstated : (ts r : Tokens) (y : Stmt) → BeginsWith key.Sleep ts → ((x : Expr) (l : ℕ) (r : Tokens) → Takes key.Sleep ts r x l → ⊥) → Stated ts r y → ⊥
+    unstated ts r _ begins none (prints t) = let head = (one_front _ _ _ _ (sym begins.2 ∙ t.begins)).0 in absurd cc
+    unstated ts r _ begins none (sleeps {x = x} {l = l} t) = none x l r t
+
+-- neither a `sleep` nor a `put_line`
+pub no_print : (ts : Tokens) → (BeginsWith key.Sleep ts → ⊥) → ((x : Expr) (l : ℕ) (r : Tokens) → Takes key.PutLine ts r x l → ⊥) → (y : Stmt) (r : Tokens) → ReadsStmt ts r y → ⊥
+no_print ts unbegun none y r d = unstated ts r y unbegun none (stated ts r y d)
+  where
+    unstated : (ts r : Tokens) (y : Stmt) → (BeginsWith key.Sleep ts → ⊥) → ((x : Expr) (l : ℕ) (r : Tokens) → Takes key.PutLine ts r x l → ⊥) → Stated ts r y → ⊥
+    unstated ts r _ unbegun none (prints {x = x} {l = l} t) = none x l r t
+    unstated ts r _ unbegun none (sleeps {l = l} t) = unbegun (l, t.behind, t.begins)
 
 -- ---- bodies
 
@@ -98,7 +130,11 @@ Bodies from found now =
     Joins {I = ℕ × Tokens} (λ i ss. ReadsBody from (lexeme.Key key.End i.0 ∷ i.1) ss) (λ i ss. ReadsBody now (lexeme.Key key.End i.0 ∷ i.1) ss) found
 
 ended : (l : ℕ) (r ts : Tokens) (x : Stmt) → ReadsStmt (lexeme.Key key.End l ∷ r) ts x → ⊥
-ended l r ts x d = let p = printed _ ts x d in let front = one_front _ _ _ _ p.begins in let head = front.0 in absurd cc
+ended l r ts x d = unstated l r ts x (stated _ ts x d)
+  where
+    unstated : (l : ℕ) (r ts : Tokens) (x : Stmt) → Stated (lexeme.Key key.End l ∷ r) ts x → ⊥
+    unstated l r ts _ (prints t) = let head = (one_front _ _ _ _ t.begins).0 in absurd cc
+    unstated l r ts _ (sleeps t) = let head = (one_front _ _ _ _ t.begins).0 in absurd cc
 
 -- behind a statement the body goes on
 body-behind : (now m r : Tokens) (l : ℕ) (x : Stmt) (xs : List Stmt) → ReadsStmt now m x → ReadsBody now (lexeme.Key key.End l ∷ r) xs →

@@ -1,15 +1,15 @@
 //! Expressions.
 
-ghost use Rattle.std.specs.Prelude.{◌≡◌, ◌∷◌, ◌≤◌, zero, ℕ, List, Some, None, IfOk, length};
+ghost use Rattle.std.specs.Prelude.{◌≡◌, ◌∷◌, zero, ℕ, Some, None, IfOk};
 ghost use Rattle.clu_tree.specs.Grammar.{Tokens, ReadsExpr};
 ghost use Rattle.clu_tree.specs.declared.tree.Expr.{Expr};
 ghost use Rattle.clu_reader.specs.Faults.{OnSyntax};
-ghost use Rattle.clu_reader.specs.Plan.{closed, bracketed};
+ghost use Rattle.clu_reader.specs.Plan.{literal_at, closed, bracketed};
 
 use crate::cursor::Cursor;
 use crate::fault::ReadFault;
-use clu_tree::make::string_literal;
-use clu_tree::{Expr, Key, Lexeme, Text};
+use clu_tree::make::{int_literal, string_literal};
+use clu_tree::{Expr, Key, Lexeme};
 use std::alloc::Global;
 
 /// Passes over the opening brackets, and counts them.
@@ -37,16 +37,20 @@ fn close_brackets(cursor: &mut Cursor<'_>, count: usize) -> Result<(), ReadFault
     Ok(())
 }
 
-/// Reads a string, and answers its content and its line.
-fn string(alloc: Global, cursor: &mut Cursor<'_>) -> Result<(Text, u32), ReadFault>
-    ensures ok { IfOk result (λ p. cursor.old ≡ Lexeme.Str p.0 p.1 ∷ cursor.new) }
-    ensures syntax { OnSyntax result ((x : List ℕ) (l : ℕ) (r : Tokens) → cursor.old ≡ Lexeme.Str x l ∷ r → ⊥) }
+/// Reads a literal without a sign: a string or an integer.
+fn literal(alloc: Global, cursor: &mut Cursor<'_>) -> Result<Expr, ReadFault>
+    ensures ok { IfOk result (λ x. literal_at cursor.old ≡ Some (x, cursor.new)) }
+    ensures syntax { OnSyntax result (literal_at cursor.old ≡ None) }
 {
     match cursor.peek() {
         Some(Lexeme::Str(content, line)) => {
             let content = content.copy(alloc)?;
             cursor.skip();
-            Ok((content, *line))
+            Ok(string_literal(content, *line))
+        }
+        Some(Lexeme::Int(number, line)) => {
+            cursor.skip();
+            Ok(int_literal(*number, *line))
         }
         _ => Err(ReadFault::Syntax(cursor.line())),
     }
@@ -58,7 +62,7 @@ pub fn expr(alloc: Global, cursor: &mut Cursor<'_>) -> Result<Expr, ReadFault>
     ensures syntax { OnSyntax result ((x : Expr) (r : Tokens) → ReadsExpr 5 cursor.old r x → ⊥) }
 {
     let count = open_brackets(cursor);
-    let (content, line) = string(alloc, cursor)?;
+    let found = literal(alloc, cursor)?;
     close_brackets(cursor, count)?;
-    Ok(string_literal(content, line))
+    Ok(found)
 }

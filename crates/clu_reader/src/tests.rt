@@ -90,6 +90,64 @@ fn accepts_and_refuses(rt: HostRuntime) {
     }
 }
 
+#[test]
+fn types_statements(rt: HostRuntime) {
+    let table: [(&[u8], Result<usize, u32>); 13] = [
+        (b"a = proc ()\nsleep(100)\nend a\nnode 1 is end", Ok(1)),
+        (b"a = proc ()\nsleep((7))\nend a\nnode 1 is end", Ok(1)),
+        (
+            b"a = proc ()\nsleep(0)put_line(\"x\")\nend a\nnode 1 is end",
+            Ok(2),
+        ),
+        (
+            b"a = proc ()\nsleep(9223372036854775807)\nend a\nnode 1 is end",
+            Ok(1),
+        ),
+        (
+            b"a = proc ()\nsleep(9223372036854775808)\nend a\nnode 1 is end",
+            Err(2),
+        ),
+        (b"a = proc ()\nsleep(-1)\nend a\nnode 1 is end", Err(2)),
+        (b"a = proc ()\nsleep()\nend a\nnode 1 is end", Err(2)),
+        (b"a = proc ()\nsleep 5\nend a\nnode 1 is end", Err(2)),
+        (b"a = proc ()\nsleep(1\nend a\nnode 1 is end", Err(3)),
+        (b"a = proc ()\nsleep(\"x\")\nend a\nnode 1 is end", Err(2)),
+        (b"a = proc ()\n\nput_line(5)\nend a\nnode 1 is end", Err(3)),
+        (
+            b"a = proc ()\nsleep(\"x\")\nsleep(1)\nend a\nnode 2 is end",
+            Err(2),
+        ),
+        (
+            b"a = proc ()\nsleep(1)\nsleep(\n\"x\")\nend a\nnode 1 is end",
+            Err(3),
+        ),
+    ];
+    for (text, wanted) in table {
+        assert_eq!(rt;
+            answer(&rt, rt.alloc(), text),
+            wanted,
+            "{}",
+            text.escape_ascii()
+        );
+    }
+}
+
+#[test]
+fn names_the_line_of_a_statement(rt: HostRuntime) -> Result<(), Fail> {
+    let text: &[u8] = b"a = proc ()\nsleep(1)\nput_line(5)\nend a\nnode 1 is end";
+    assert!(rt; text.len() <= 1048576);
+    match accept(rt.alloc(), text) {
+        Ok(_) => panic!(rt; "accepted"),
+        Err(fault) => {
+            assert_eq!(rt;
+                format!(in rt.alloc(); "{fault}")?.as_str(),
+                "program refused at line 3"
+            );
+        }
+    }
+    Ok(())
+}
+
 /// A text of `piece` so many times, with what stands before and behind.
 fn repeated(
     alloc: Global,

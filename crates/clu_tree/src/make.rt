@@ -16,11 +16,25 @@ pub fn string_literal(content: Text, line: u32) -> Expr
     Expr::Literal(Value::Str(content), line)
 }
 
+/// An integer literal, with its value.
+pub fn int_literal(number: i64, line: u32) -> Expr
+    ensures { result ≡ Expr.Literal (Value.Int number) line }
+{
+    Expr::Literal(Value::Int(number), line)
+}
+
 /// `put_line(text)`
 pub fn put_line(text: Expr, line: u32) -> Stmt
     ensures { result ≡ Stmt.PutLine text line }
 {
     Stmt::PutLine(text, line)
+}
+
+/// `sleep(time)`
+pub fn sleep(time: Expr, line: u32) -> Stmt
+    ensures { result ≡ Stmt.Sleep time line }
+{
+    Stmt::Sleep(time, line)
 }
 
 /// `name = proc (..) returns (..) signals (..) body end name`
