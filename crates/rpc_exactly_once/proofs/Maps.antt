@@ -49,13 +49,13 @@ module _ {X : Type 0} where
       let rest = lookup-filter p q es in
       elim (cases_Bool (nat_eq q e.0)) [
         | inl same ↦ (let at = ap p (eqb-true q e.0 same) in elim (cases_Bool (p e.0)) [
-            | inl kept ↦ rw (kept, at ∙ kept, same) refl
-            | inr dropped ↦ rw dropped (rest ∙ ap (λ b. cond b (lookup (nat_eq q) es) None) (at ∙ dropped) ∙ sym (ap (λ b. cond b (lookup (nat_eq q) (e ∷ es)) None) (at ∙ dropped)))
-          ])
+          | inl kept ↦ rw (kept, at ∙ kept, same) refl
+          | inr dropped ↦ rw dropped (rest ∙ ap (λ b. cond b (lookup (nat_eq q) es) None) (at ∙ dropped) ∙ sym (ap (λ b. cond b (lookup (nat_eq q) (e ∷ es)) None) (at ∙ dropped)))
+        ])
         | inr other ↦ elim (cases_Bool (p e.0)) [
-            | inl kept ↦ rw (kept, other) rest
-            | inr dropped ↦ rw (dropped, other) rest
-          ]
+          | inl kept ↦ rw (kept, other) rest
+          | inr dropped ↦ rw (dropped, other) rest
+        ]
       ]
 
   pub get-retained : (m : map.FinMap nat_cmp X) (p : ℕ → Bool) (q : ℕ) → map.get (map.retain_keys m p) q ≡ cond (p q) (map.get m q) None

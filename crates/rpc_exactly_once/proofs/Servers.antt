@@ -107,3 +107,7 @@ module _ {A E : Type 0} where
   pub if_ok : (r : Result A E) (P Q : A → Type 0) → ((x : A) → P x → Q x) → IfOk r P → IfOk r Q
   if_ok (Ok x) P Q f ok = f x ok
   if_ok (Err e) P Q f ok = tt
+
+  pub if_ok_on : (r : Result A E) (P R : A → Type 0) (Q : Type 0) → ((x : A) → P x → Q → R x) → IfOk r P → OnOk r Q → IfOk r R
+  if_ok_on (Ok x) P R Q f ok on = f x ok on
+  if_ok_on (Err e) P R Q f ok on = tt

@@ -9,7 +9,7 @@ use Rattle.rpc_exactly_once.specs.declared.row.Arrival.{Arrival}
 use Rattle.rpc_exactly_once.specs.declared.row.Arrival.TheVariants.{Begin, Resend, Nothing}
 use Rattle.rpc_exactly_once.specs.declared.row.Row.{Row}
 use Rattle.rpc_exactly_once.specs.declared.row.Row.TheVariants.{Running, Done}
-use Rattle.rpc_exactly_once.specs.Server.{Table, arrival, by_row, is_running, raised, row_of, with_row, IsPast, NoneBelow}
+use Rattle.rpc_exactly_once.specs.Server.{Table, arrival, by_row, is_running, raised, row_of, with_row, IfBegin, IsPast, MayBegin, NoneBelow}
 use Rattle.rpc_exactly_once.proofs.Maps.{get-inserted, get-of_entries, get-retained, of_entries-filter, of_entries-insert, same_numbers}
 
 abbrev pub seen : ℕ → List (ℕ × Row) → Table
@@ -104,6 +104,19 @@ past-not_begun t seq past e =
           let there : IsSome (row_of t seq) = elim past [ inl below ↦ absurd (omega (arith, below, not_below)) | inr there ↦ there ] in
           subst not_Begin (sym answer ∙ e) (by_row-not_Begin (row_of t seq) there))
     ]
+
+-- a body that is to begin may
+pub may_begin : (t : Table) (seq : ℕ) (answer : Arrival) → answer ≡ arrival t seq → IfBegin answer (MayBegin t seq)
+may_begin t seq Begin e = record {
+  absent = none (row_of t seq) (λ there. past-not_begun t seq (inr there) (sym e));
+  not_below = elim (cases_lt seq t.floor) [ inl below ↦ absurd (past-not_begun t seq (inl below) (sym e)) | inr not_below ↦ not_below ];
+}
+  where
+    none : (row : Option Row) → ¬ IsSome row → row ≡ None
+    none None n = refl
+    none (Some row) n = absurd (n refl)
+may_begin t seq (Resend reply) e = tt
+may_begin t seq Nothing e = tt
 
 pub raised_is : (floor greater : ℕ) (es kept : List (ℕ × Row)) → floor < greater → kept ≡ filter (λ (e : ℕ × Row). nat_le greater e.0) es → seen greater kept ≡ raised (seen floor es) greater
 raised_is floor greater es kept lt e =

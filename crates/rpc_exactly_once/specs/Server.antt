@@ -58,6 +58,16 @@ NoneBelow table = (seq : ℕ) → IsSome (row_of table seq) → table.floor ≤ 
 pub record AreAboveFloors (server : Server) : Type 0 where
   pub none_below : (client : ℕ) → NoneBelow (table_of server client)
 
+-- a body may begin for the call: it isn't below the floor, and has no row
+pub record MayBegin (table : Table) (seq : ℕ) : Type 0 where
+  pub absent : row_of table seq ≡ None
+  pub not_below : table.floor ≤ seq
+
+-- what holds where the body is to begin
+abbrev pub IfBegin : Arrival → Type 0 → Type 0
+IfBegin Begin P = P
+IfBegin _ P = Unit
+
 -- no body begins for the call from here on: it is below the floor, or it has a row
 abbrev pub IsPast : Table → ℕ → Type 0
 IsPast table seq = (seq < table.floor) ⊎ IsSome (row_of table seq)

@@ -49,7 +49,13 @@ impl OnceClient {
     }
 
     /// Gives a call the next number, from 1. `Full` comes after number 2^62. After an error all is as before.
-    pub fn start(&mut self, alloc: Global, to: u32, routine: u16, args: Bytes) -> Result<u64, StartFault>
+    pub fn start(
+        &mut self,
+        alloc: Global,
+        to: u32,
+        routine: u16,
+        args: Bytes,
+    ) -> Result<u64, StartFault>
         ensures number { IfOk result (λ seq. seq ≡ self.old.last + 1) }
         ensures ok { OnOk result (self.new ≡ with_call self.old (record { to = to; routine = routine; args = args })) }
         ensures pending { IfOk result (IsPending self.new) }

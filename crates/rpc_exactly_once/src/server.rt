@@ -31,7 +31,7 @@ impl Model for OnceServer {
 }
 
 impl OnceServer {
-    ghost use Rattle.rpc_exactly_once.specs.Server.{arrival, is_running, raised, row_of, table_of, with_row, AreAboveFloors, IsPast, StaysPast};
+    ghost use Rattle.rpc_exactly_once.specs.Server.{arrival, is_running, raised, row_of, table_of, with_row, AreAboveFloors, IfBegin, IsPast, MayBegin, StaysPast};
 
     /// No client was heard from.
     pub fn new(alloc: Global) -> Result<OnceServer, Memory>
@@ -45,11 +45,19 @@ impl OnceServer {
 
     /// A client's call comes, with the client's floor. Rows below the greatest floor seen are dropped, and then the floor
     /// and the row of the call say what is to be done. For want of memory all is as before.
-    pub fn arrive(&mut self, alloc: Global, client: u32, seq: u64, floor: u64) -> Result<Arrival, Memory>
+    pub fn arrive(
+        &mut self,
+        alloc: Global,
+        client: u32,
+        seq: u64,
+        floor: u64,
+    ) -> Result<Arrival, Memory>
         ensures answer { IfOk result (λ answer. answer ≡ arrival (raised (table_of self.old client) floor) seq) }
         ensures ok { OnOk result (self.new ≡ map.insert self.old client (raised (table_of self.old client) floor)) }
         ensures err { OnErr result (self.new ≡ self.old) }
         ensures above { AreAboveFloors self.new }
+        // Where a body is to begin, it may.
+        ensures begin { IfOk result (λ answer. IfBegin answer (MayBegin (table_of self.new client) seq)) }
         // A call that was begun isn't begun again.
         ensures once { IsPast (table_of self.old client) seq → IfOk result (λ answer. ¬ (answer ≡ Arrival.Begin)) }
         ensures past { StaysPast self.old self.new }
@@ -68,8 +76,7 @@ impl OnceServer {
     /// The body of a client's call begins. The call has no row, and isn't below the client's floor. For want of memory all
     /// is as before.
     pub fn begun(&mut self, alloc: Global, client: u32, seq: u64) -> Result<(), Memory>
-        requires absent { row_of (table_of self.old client) seq ≡ None }
-        requires not_below { (table_of self.old client).floor ≤ seq }
+        requires { MayBegin (table_of self.old client) seq }
         ensures ok { OnOk result (self.new ≡ map.insert self.old client (with_row (table_of self.old client) seq Row.Running)) }
         ensures err { OnErr result (self.new ≡ self.old) }
         ensures above { AreAboveFloors self.new }
@@ -89,7 +96,13 @@ impl OnceServer {
 
     /// The body of a client's call ended, and this is its reply. False exactly where the call isn't running, and then all
     /// is as before. For want of memory too.
-    pub fn done(&mut self, alloc: Global, client: u32, seq: u64, reply: Bytes) -> Result<bool, Memory>
+    pub fn done(
+        &mut self,
+        alloc: Global,
+        client: u32,
+        seq: u64,
+        reply: Bytes,
+    ) -> Result<bool, Memory>
         ensures running { IfOk result (λ ended. ended ≡ is_running (row_of (table_of self.old client) seq)) }
         ensures ok { IfOk result (λ ended. OnTrue ended (self.new ≡ map.insert self.old client (with_row (table_of self.old client) seq (Row.Done reply)))) }
         ensures unchanged { IfOk result (λ ended. OnFalse ended (self.new ≡ self.old)) }

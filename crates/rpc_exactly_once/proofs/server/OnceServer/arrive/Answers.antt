@@ -2,10 +2,10 @@ use Rattle.std.proofs.Common.{◌≡◌, ℕ, ◌∙◌, cond, nat_eq, ap, refl,
 use Rattle.std.specs.Prelude.{IsSome}
 use Rattle.std.specs.FinMap as map
 use Rattle.indexmap.specs.IndexMap.{get}
-use Rattle.rpc_exactly_once.specs.declared.row.Arrival.TheVariants.{Begin}
-use Rattle.rpc_exactly_once.specs.Server.{Table, arrival, raised, table_of, unheard, AreAboveFloors, IsPast, NoneBelow, StaysPast}
-use Rattle.rpc_exactly_once.proofs.Servers.{IsPut, if_ok, kept_by, on_err, on_ok, past-insert, put_above, put_again, put_is, table_found}
-use Rattle.rpc_exactly_once.proofs.Tables.{past-not_begun, past-raised}
+use Rattle.rpc_exactly_once.specs.declared.row.Arrival.{Arrival}
+use Rattle.rpc_exactly_once.specs.Server.{Server, Table, arrival, raised, table_of, unheard, AreAboveFloors, IfBegin, IsPast, MayBegin, NoneBelow, StaysPast}
+use Rattle.rpc_exactly_once.proofs.Servers.{IsPut, if_ok, if_ok_on, kept_by, on_err, on_ok, past-insert, put_above, put_again, put_is, table_found, table_of-itself}
+use Rattle.rpc_exactly_once.proofs.Tables.{may_begin, past-not_begun, past-raised}
 use Rattle.rpc_exactly_once.proofs.server.OnceServer.arrive.Goals as goal
 
 -- ---- the client was heard from
@@ -30,6 +30,15 @@ returns-in-Some-clause-err c = on_err c.arrive.result _ _ (λ e. put_again _ _ c
 
 pub returns-in-Some-clause-above : goal.returns-in-Some-clause-above
 returns-in-Some-clause-above c = invariant_of-self c
+
+-- the client's table is as the call's floor leaves it
+begins : (now after : Server) (client seq floor : ℕ) (answer : Arrival) → answer ≡ arrival (raised (table_of now client) floor) seq → after ≡ map.insert now client (raised (table_of now client) floor) → IfBegin answer (MayBegin (table_of after client) seq)
+begins now after client seq floor answer e ok =
+    let t = raised (table_of now client) floor in
+    subst (λ t. IfBegin answer (MayBegin t seq)) (sym (ap (λ s. table_of s client) ok ∙ table_of-itself now client t)) (may_begin t seq answer e)
+
+pub returns-in-Some-clause-begin : goal.returns-in-Some-clause-begin
+returns-in-Some-clause-begin c = if_ok_on c.arrive.result _ _ _ (λ answer. begins c.args.self.now _ c.args.client c.args.seq c.args.floor answer) (returns-in-Some-clause-answer c) (returns-in-Some-clause-ok c)
 
 pub returns-in-Some-clause-once : goal.returns-in-Some-clause-once
 returns-in-Some-clause-once c past =
@@ -61,6 +70,9 @@ returns-in_ok-insert-in-None-clause-ok c = put_is _ _ c.args.client _ (puts c) c
 
 pub returns-in_ok-insert-in-None-clause-above : goal.returns-in_ok-insert-in-None-clause-above
 returns-in_ok-insert-in-None-clause-above c = invariant_of-self-in-None c
+
+pub returns-in_ok-insert-in-None-clause-begin : goal.returns-in_ok-insert-in-None-clause-begin
+returns-in_ok-insert-in-None-clause-begin c = begins c.args.self.now _ c.args.client c.args.seq c.args.floor _ (returns-in_ok-insert-in-None-clause-answer c) (returns-in_ok-insert-in-None-clause-ok c)
 
 pub returns-in_ok-insert-in-None-clause-once : goal.returns-in_ok-insert-in-None-clause-once
 returns-in_ok-insert-in-None-clause-once c past begin =
