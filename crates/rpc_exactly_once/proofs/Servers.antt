@@ -1,5 +1,5 @@
 -- The tables of all clients.
-use Rattle.std.proofs.Common.{◌≡◌, ℕ, Bool, true, false, cond, List, Option, Some, None, refl, sym, ap, subst, ◌∙◌, nat_eq, inl, inr}
+use Rattle.std.proofs.Common.{◌≡◌, ℕ, Bool, true, false, cond, List, Option, Some, refl, sym, ap, subst, ◌∙◌, nat_eq, inl, inr}
 use Rattle.std.specs.Prelude.{IsSome, IfOk, OnOk, OnErr, Result, Ok, Err}
 use Rattle.std.specs.Bool.{OnFalse, OnTrue}
 use Rattle.std.specs.FinMap as map

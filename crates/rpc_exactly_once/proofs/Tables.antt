@@ -1,9 +1,8 @@
 -- The table of one client.
-use Rattle.std.proofs.Common.{◌≡◌, ℕ, ◌<◌, ◌≤◌, ◌⊎◌, Bool, true, false, cond, filter, max, List, Option, Some, None, refl, sym, ap, subst, ◌∙◌, nat_eq, nat_le, nat_lt, arith, inl, inr}
+use Rattle.std.proofs.Common.{◌≡◌, ℕ, ◌<◌, ◌≤◌, Bool, true, false, cond, filter, max, List, Option, Some, None, refl, sym, ap, subst, ◌∙◌, nat_eq, nat_le, arith, inl, inr}
 use Rattle.std.specs.Prelude.{IsSome}
 use Rattle.std.specs.FinMap as map
 use Rattle.std.specs.Map.{lookup}
-use Rattle.std.specs.Ordering.{nat_cmp}
 use Rattle.std.proofs.lemmas.Bool.{cases_Bool, cases_lt, eqb-true, eq-eqb, lt-ltb, le-ltb, le-leb, leb-true, false≢true}
 use Rattle.rpc_exactly_once.specs.declared.row.Arrival.{Arrival}
 use Rattle.rpc_exactly_once.specs.declared.row.Arrival.TheVariants.{Begin, Resend, Nothing}

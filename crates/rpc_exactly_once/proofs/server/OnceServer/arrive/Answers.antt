@@ -1,9 +1,9 @@
-use Rattle.std.proofs.Common.{◌≡◌, ℕ, ◌∙◌, cond, nat_eq, ap, refl, sym, subst, Option, None, Some, IfOk, OnOk, OnErr}
+use Rattle.std.proofs.Common.{◌≡◌, ℕ, ◌∙◌, cond, nat_eq, ap, refl, sym, subst, None, Some, IfOk}
 use Rattle.std.specs.Prelude.{IsSome}
 use Rattle.std.specs.FinMap as map
 use Rattle.indexmap.specs.IndexMap.{get}
 use Rattle.rpc_exactly_once.specs.declared.row.Arrival.{Arrival}
-use Rattle.rpc_exactly_once.specs.Server.{Server, Table, arrival, raised, table_of, unheard, AreAboveFloors, IfBegin, IsPast, MayBegin, NoneBelow, StaysPast}
+use Rattle.rpc_exactly_once.specs.Server.{Server, arrival, raised, table_of, IfBegin, MayBegin, StaysPast}
 use Rattle.rpc_exactly_once.proofs.Servers.{IsPut, if_ok, if_ok_on, kept_by, on_err, on_ok, past-insert, put_above, put_again, put_is, table_found, table_of-itself}
 use Rattle.rpc_exactly_once.proofs.Tables.{may_begin, past-not_begun, past-raised}
 use Rattle.rpc_exactly_once.proofs.server.OnceServer.arrive.Goals as goal

@@ -1,11 +1,10 @@
-use Rattle.std.proofs.Common.{◌≡◌, ℕ, ◌≤◌, ◌∙◌, cond, nat_eq, ap, refl, sym, subst, Option, None, Some, IfOk, OnOk, OnErr, arith}
+use Rattle.std.proofs.Common.{◌≡◌, ℕ, ◌≤◌, ◌∙◌, cond, nat_eq, ap, refl, sym, subst, None, Some}
 use Rattle.std.specs.Prelude.{IsSome}
-use Rattle.std.specs.FinMap as map
 use Rattle.std.specs.FinMap.{get-empty}
 use Rattle.std.specs.Ordering.{nat_cmp}
 use Rattle.indexmap.specs.IndexMap.{get}
 use Rattle.rpc_exactly_once.specs.declared.row.Row.TheVariants.{Running}
-use Rattle.rpc_exactly_once.specs.Server.{Table, row_of, table_of, unheard, with_row, AreAboveFloors, IsPast, NoneBelow, StaysPast}
+use Rattle.rpc_exactly_once.specs.Server.{Table, row_of, table_of, with_row, IsPast, StaysPast}
 use Rattle.rpc_exactly_once.proofs.Servers.{IsPut, kept_by, on_err, on_ok, past-insert, put_above, put_again, put_is, table_found, table_of-itself}
 use Rattle.rpc_exactly_once.proofs.Tables.{past-itself, past-with_row}
 use Rattle.rpc_exactly_once.proofs.server.OnceServer.begun.Goals as goal

@@ -1,14 +1,12 @@
-use Rattle.std.proofs.Common.{◌≡◌, ℕ, ◌≤◌, ◌∙◌, cond, nat_eq, ap, refl, sym, subst, Option, None, Some, IfOk, OnOk, OnErr, arith}
+use Rattle.std.proofs.Common.{◌≡◌, ℕ, ◌∙◌, ap, refl, sym, subst, None, Some, IfOk}
 use Rattle.std.specs.Prelude.{IsSome}
-use Rattle.std.specs.Bool.{OnFalse, OnTrue}
 use Rattle.std.specs.FinMap as map
 use Rattle.std.specs.FinMap.{get-empty}
 use Rattle.std.specs.Ordering.{nat_cmp}
-use Rattle.indexmap.specs.IndexMap.{get}
 use Rattle.rpc_exactly_once.specs.declared.row.Row.TheVariants.{Done}
-use Rattle.rpc_exactly_once.specs.Server.{Table, is_running, row_of, table_of, unheard, with_row, AreAboveFloors, IsPast, NoneBelow, StaysPast}
-use Rattle.rpc_exactly_once.proofs.Servers.{IsPut, floors-insert, if_ok, kept_by_bool, on_err, on_false, on_true, past-insert, put_above, put_again, put_is, table_found, table_of-itself}
-use Rattle.rpc_exactly_once.proofs.Tables.{past-itself, past-with_row}
+use Rattle.rpc_exactly_once.specs.Server.{is_running, row_of, table_of, with_row, StaysPast}
+use Rattle.rpc_exactly_once.proofs.Servers.{IsPut, floors-insert, if_ok, kept_by_bool, on_err, on_false, on_true, past-insert, put_above, put_again, put_is, table_found}
+use Rattle.rpc_exactly_once.proofs.Tables.{past-with_row}
 use Rattle.rpc_exactly_once.proofs.server.OnceServer.done.Goals as goal
 
 pub returns-in_default-clause-running : goal.returns-in_default-clause-running

@@ -1,4 +1,4 @@
-use Rattle.std.proofs.Common.{◌≡◌, ◌∙◌, ap, None, Some, sym, subst, ◌≤◌}
+use Rattle.std.proofs.Common.{◌∙◌, ap, None, Some, sym, subst, ◌≤◌}
 use Rattle.rpc_exactly_once.specs.declared.row.Arrival.TheVariants.{Resend}
 use Rattle.rpc_exactly_once.specs.declared.row.Row.TheVariants.{Running, Done}
 use Rattle.rpc_exactly_once.specs.Server.{Table}

@@ -1,5 +1,5 @@
-use Rattle.std.proofs.Common.{◌≡◌, ◌∙◌, ap, None, Some, sym}
-use Rattle.rpc_exactly_once.specs.declared.row.Row.TheVariants.{Running, Done}
+use Rattle.std.proofs.Common.{◌∙◌, ap, None, Some, sym}
+use Rattle.rpc_exactly_once.specs.declared.row.Row.TheVariants.{Running}
 use Rattle.rpc_exactly_once.specs.Server.{is_running}
 use Rattle.rpc_exactly_once.proofs.Tables.{row_found}
 use Rattle.rpc_exactly_once.proofs.table.Table.is_running.Goals as goal

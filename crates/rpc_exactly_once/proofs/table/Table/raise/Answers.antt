@@ -1,7 +1,7 @@
-use Rattle.std.proofs.Common.{◌≡◌, ℕ, ◌∙◌, ap, filter, nat_le, rules, subst, sym}
+use Rattle.std.proofs.Common.{◌≡◌, ℕ, ◌∙◌, ap, nat_le, rules, subst, sym}
 use Rattle.indexmap.proofs.CallerLemmas.{filter-RetainsPairs}
 use Rattle.rpc_exactly_once.specs.declared.row.Row.{Row}
-use Rattle.rpc_exactly_once.specs.Server.{Table, raised, NoneBelow}
+use Rattle.rpc_exactly_once.specs.Server.{raised, NoneBelow}
 use Rattle.rpc_exactly_once.proofs.Tables.{none_below-raised, raised_is, raised_not, seen}
 use Rattle.rpc_exactly_once.proofs.table.Table.raise.Goals as goal
 
