@@ -1,6 +1,7 @@
 -- Entries whose numbers rise.
 use Rattle.std.proofs.Common.{◌≡◌, ℕ, ◌+◌, ◌^◌, ◌<◌, ◌≤◌, Bool, true, false, cond, List, [], ◌∷◌, ◌++◌, Option, Some, None, refl, sym, ap, subst, ◌∙◌, nat_eq, arith, inl, inr, map, slice_get}
-use Rattle.std.specs.Prelude.{IsSome}
+use Rattle.std.specs.Prelude.{IsSome, OnSome}
+use Rattle.std.specs.Borrow.{Bor}
 use Rattle.std.specs.Cmp.{nat_cmp_total}
 use Rattle.std.specs.Map.{lookup, remove_entry}
 use Rattle.std.specs.Ordering.{nat_cmp}
@@ -10,10 +11,10 @@ use Rattle.std.specs.FinMap.Entries.{put}
 use Rattle.std.proofs.lemmas.Bool.{lt-ltb, eqb-true, eq-eqb, cases_Bool, false≢true}
 use Rattle.std.proofs.lemmas.List.{nil_from_length}
 use Rattle.std.proofs.lemmas.Option.{none-some, same_Some}
-use Rattle.std.specs.Option.{option_map_or}
+use Rattle.std.specs.Option.{option_copied, option_map_or}
 use Rattle.indexmap.specs.IndexMap.{IndexMap, insert_entry}
 use Rattle.indexmap.proofs.CallerLemmas.{insert_entry-new}
-use Rattle.numbered_calls.specs.Calls.{Calls, AreNumbered, IsFloor, IsPending, floor_of, with_call, without}
+use Rattle.numbered_calls.specs.Calls.{Calls, AreNumbered, IsFloor, IsGiven, IsPending, floor_of, with_call, without}
 use Rattle.numbered_calls.specs.Numbers.{Rise}
 use Rattle.numbered_calls.proofs.Maps.{get-of_entries, of_entries-insert, of_entries-remove}
 
@@ -83,6 +84,11 @@ module _ {X : Type 0} where
     given = λ seq there. (let given = Rise-given 0 last seq es inv.0 (subst IsSome (get-of_entries es seq) there) in (omega (arith, given.0), given.1));
     limit = inv.1;
   }
+
+  -- what is found under a number was given it
+  pub found_given : (calls : Calls X) (seq : ℕ) (found : Option (Bor X)) → AreNumbered calls → option_copied found ≡ finmap.get calls.pending seq → OnSome found (IsGiven calls seq)
+  found_given calls seq None numbered e = tt
+  found_given calls seq (Some call) numbered e = numbered.given seq (subst IsSome e refl)
 
   pub with_call_is : (last : ℕ) (old new : List (ℕ × X)) (call : X) → ((q : ℕ) → lookup (nat_eq q) new ≡ cond (nat_eq (last + 1) q) (Some call) (lookup (nat_eq q) old)) → seen (last + 1) new ≡ with_call (seen last old) call
   with_call_is last old new call updates = ap (λ m. record { last = last + 1; pending = m }) (of_entries-insert old new (last + 1) call updates)

@@ -41,7 +41,11 @@ module _ {X : Type 0} where
     pub least : (seq : ℕ) → IsPending calls seq → n ≤ seq
     pub either : IsPending calls n ⊎ ((calls.pending ≡ map.empty) × (n ≡ calls.last + 1))
 
+  -- the number was given to a call
+  abbrev pub IsGiven : Calls X → ℕ → Type 0
+  IsGiven calls seq = (1 ≤ seq) × (seq ≤ calls.last)
+
   -- each pending number was given, and is from 1 to 2 ^ 62
   pub record AreNumbered (calls : Calls X) : Type 0 where
-    pub given : (seq : ℕ) → IsPending calls seq → (1 ≤ seq) × (seq ≤ calls.last)
+    pub given : (seq : ℕ) → IsPending calls seq → IsGiven calls seq
     pub limit : calls.last ≤ 2 ^ 62

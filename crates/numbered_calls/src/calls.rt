@@ -1,4 +1,4 @@
-ghost use Rattle.std.specs.Prelude.{◌≡◌, ◌+◌, ◌^◌, ◌↔◌, IfOk, IfSome, OnOk, OnErr, IsErrOf, slice_get};
+ghost use Rattle.std.specs.Prelude.{◌≡◌, ◌+◌, ◌^◌, ◌↔◌, IfOk, IfSome, OnSome, OnOk, OnErr, IsErrOf, slice_get};
 ghost use Rattle.std.specs.Bool.{OnFalse};
 ghost use Rattle.std.specs.FinMap as map;
 ghost use Rattle.std.specs.Option.{option_map, option_copied};
@@ -34,7 +34,7 @@ impl<T> Model for NumberedCalls<T> {
 }
 
 impl<T: Drop> NumberedCalls<T> {
-    ghost use Rattle.numbered_calls.specs.Calls.{none_yet, with_call, without, IsPending, IsFloor, floor_of, AreNumbered};
+    ghost use Rattle.numbered_calls.specs.Calls.{none_yet, with_call, without, IsPending, IsGiven, IsFloor, floor_of, AreNumbered};
 
     /// No call is pending, and none was made.
     pub fn new(alloc: Global) -> NumberedCalls<T>
@@ -48,7 +48,7 @@ impl<T: Drop> NumberedCalls<T> {
     }
 
     /// Gives the call the next number. `Full` comes after number 2^62. After an error all is as before.
-    pub fn start(&mut self, call: T) -> Result<u64, StartFault>
+    pub fn start(&mut self, alloc: Global, call: T) -> Result<u64, StartFault>
         ensures number { IfOk result (λ seq. seq ≡ self.old.last + 1) }
         ensures ok { OnOk result (self.new ≡ with_call self.old call) }
         ensures pending { IfOk result (IsPending self.new) }
@@ -75,9 +75,11 @@ impl<T: Drop> NumberedCalls<T> {
         self.pending.shift_remove(&seq).is_some()
     }
 
-    /// The pending call of this number.
+    /// The pending call of this number. None exactly where none of this number is pending.
     pub fn get(&self, seq: u64) -> Option<&T>
-        ensures { option_copied result ≡ map.get self.now.pending seq }
+        ensures call { option_copied result ≡ map.get self.now.pending seq }
+        ensures given { OnSome result (IsGiven self.now seq) }
+        ensures numbered { AreNumbered self.now }
     {
         self.pending.get(&seq)
     }
@@ -98,6 +100,8 @@ impl<T: Drop> NumberedCalls<T> {
     pub fn at(&self, place: usize) -> Option<(u64, &T)>
         ensures place { option_map (λ c. (c.0, c.1.now)) result ≡ slice_get (map.entries self.now.pending) place }
         ensures pending { IfSome result (λ c. IsPending self.now c.0) }
+        ensures given { IfSome result (λ c. IsGiven self.now c.0) }
+        ensures numbered { AreNumbered self.now }
     {
         let (seq, call) = self.pending.get_index(place)?;
         Some((*seq, call))

@@ -27,7 +27,7 @@ fn calls_are_numbered(rt: HostRuntime) -> Result<(), Fail> {
     assert_eq!(rt; calls.floor(), 1);
     for (act, floor, pending) in table {
         match act {
-            Act::Start(number) => assert_eq!(rt; calls.start(7)?, number),
+            Act::Start(number) => assert_eq!(rt; calls.start(rt.alloc(), 7)?, number),
             Act::End(number, answer) => assert_eq!(rt; calls.end(number), answer, "{act:?}"),
         }
         assert_eq!(rt; calls.floor(), floor, "{act:?}");
@@ -40,6 +40,18 @@ fn calls_are_numbered(rt: HostRuntime) -> Result<(), Fail> {
             assert_eq!(rt; calls.get(*number).copied(), Some(7), "{act:?}");
         }
         assert!(rt; calls.at(pending.len()).is_none(), "{act:?}");
+    }
+    Ok(())
+}
+
+/// What a fault tells.
+#[test]
+fn faults_tell_why(rt: HostRuntime) -> Result<(), Fail> {
+    for (fault, text) in [
+        (StartFault::Full, "no number is left"),
+        (StartFault::Memory, "out of memory"),
+    ] {
+        assert_eq!(rt; format!(in rt.alloc(); "{fault}")?.as_str(), text);
     }
     Ok(())
 }

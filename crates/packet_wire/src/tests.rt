@@ -109,3 +109,15 @@ fn bad(rt: HostRuntime) {
         );
     }
 }
+
+/// What a fault tells.
+#[test]
+fn faults_tell_why(rt: HostRuntime) -> Result<(), Fail> {
+    for (fault, text) in [
+        (WireFault::Bad, "no packet has these bytes"),
+        (WireFault::Memory, "out of memory"),
+    ] {
+        assert_eq!(rt; format!(in rt.alloc(); "{fault}")?.as_str(), text);
+    }
+    Ok(())
+}

@@ -2,7 +2,7 @@ ghost use Rattle.std.specs.Prelude.{◌≡◌, ◌+◌, ◌^◌, ◌↔◌, IfOk
 ghost use Rattle.std.specs.Bool.{OnFalse};
 ghost use Rattle.std.specs.FinMap as map;
 ghost use Rattle.std.specs.Option.{option_map};
-ghost use Rattle.numbered_calls.specs.Calls.{none_yet, with_call, without, IsPending, AreNumbered};
+ghost use Rattle.numbered_calls.specs.Calls.{none_yet, with_call, without, IsPending, IsGiven, AreNumbered};
 
 use numbered_calls::{NumberedCalls, StartFault};
 use packet_wire::Memory;
@@ -46,7 +46,7 @@ impl MaybeClient {
     }
 
     /// Gives a call the next number, from 1. `Full` comes after number 2^62. After an error all is as before.
-    pub fn start(&mut self, to: u32, routine: u16) -> Result<u64, StartFault>
+    pub fn start(&mut self, alloc: Global, to: u32, routine: u16) -> Result<u64, StartFault>
         ensures number { IfOk result (λ seq. seq ≡ self.old.last + 1) }
         ensures ok { OnOk result (self.new ≡ with_call self.old (record { to = to; routine = routine })) }
         ensures pending { IfOk result (IsPending self.new) }
@@ -54,7 +54,7 @@ impl MaybeClient {
         ensures err { OnErr result (self.new ≡ self.old) }
         ensures numbered { AreNumbered self.new }
     {
-        self.calls.start(MaybeCall { to, routine })
+        self.calls.start(alloc, MaybeCall { to, routine })
     }
 
     /// The call has its answer. False exactly where it isn't pending, and then all is as before.
@@ -81,6 +81,8 @@ impl MaybeClient {
     pub fn at(&self, place: usize) -> Option<(u64, u32, u16)>
         ensures place { result ≡ option_map (λ c. (c.0, c.1.to, c.1.routine)) (slice_get (map.entries self.now.pending) place) }
         ensures pending { IfSome result (λ c. IsPending self.now c.0) }
+        ensures given { IfSome result (λ c. IsGiven self.now c.0) }
+        ensures numbered { AreNumbered self.now }
     {
         let (seq, call) = self.calls.at(place)?;
         Some((seq, call.to, call.routine))

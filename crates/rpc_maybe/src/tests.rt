@@ -5,8 +5,8 @@ use std::test::*;
 #[test]
 fn calls_end_once(rt: HostRuntime) -> Result<(), Fail> {
     let mut client = MaybeClient::new(rt.alloc())?;
-    assert_eq!(rt; client.start(2, 5)?, 1);
-    assert_eq!(rt; client.start(3, 6)?, 2);
+    assert_eq!(rt; client.start(rt.alloc(), 2, 5)?, 1);
+    assert_eq!(rt; client.start(rt.alloc(), 3, 6)?, 2);
     assert_eq!(rt; client.at(0), Some((1, 2, 5)));
     assert_eq!(rt; client.at(1), Some((2, 3, 6)));
     assert_eq!(rt; client.at(2), None);
@@ -15,6 +15,6 @@ fn calls_end_once(rt: HostRuntime) -> Result<(), Fail> {
     assert!(rt; client.expire(2));
     assert!(rt; !client.reply(2));
     assert_eq!(rt; client.at(0), None);
-    assert_eq!(rt; client.start(3, 6)?, 3);
+    assert_eq!(rt; client.start(rt.alloc(), 3, 6)?, 3);
     Ok(())
 }
