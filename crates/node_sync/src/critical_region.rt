@@ -1,7 +1,7 @@
 ghost use Rattle.std.specs.Prelude.{◌≡◌, ◌↔◌, [], IfOk, OnErr, IsNone, slice_get};
 ghost use Rattle.node_sync.specs.Locks.{IsFree, IsHeld, IsHeldBy, IsLock, entered, free, left};
 
-use crate::Memory;
+use crate::memory::Memory;
 use std::alloc::Global;
 use std::collections::VecDeque;
 use std::marker::Model;

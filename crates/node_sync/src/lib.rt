@@ -2,6 +2,7 @@
 #![tactic(auto)]
 
 mod critical_region;
+mod memory;
 mod node_sync;
 #[cfg(test)]
 mod tests;
@@ -9,8 +10,6 @@ mod timed_semaphore;
 
 pub use clu_tree::Addr;
 pub use critical_region::{EnterEnd, Lock};
+pub use memory::Memory;
 pub use node_sync::NodeSync;
 pub use timed_semaphore::{MAX_COUNT, Semaphore, SignalEnd, WaitEnd};
-
-/// Memory ran out.
-pub type Memory = std::alloc::AllocError;

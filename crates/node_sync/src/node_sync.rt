@@ -5,8 +5,9 @@ ghost use Rattle.node_sync.specs.Semaphores.{WaitsFor, cancelled, counting, sign
 ghost use Rattle.node_sync.specs.Objects.{AreInOrder, IsLockAt, IsSemaphoreAt, IsUnmade, WaitsNowhere, lock_at, none_yet, semaphore_at, with_lock, with_semaphore};
 
 use crate::critical_region::{EnterEnd, Lock};
+use crate::memory::Memory;
 use crate::timed_semaphore::{Semaphore, SignalEnd, WaitEnd};
-use crate::{Addr, Memory};
+use clu_tree::Addr;
 use std::alloc::Global;
 use std::collections::BTreeMap;
 use std::marker::Model;

@@ -2,7 +2,7 @@ ghost use Rattle.std.specs.Prelude.{◌≡◌, ◌<◌, ◌≤◌, ◌^◌, ◌�
 ghost use Rattle.std.specs.Bool.{OnFalse};
 ghost use Rattle.node_sync.specs.Semaphores.{IsSemaphore, WaitsFor, cancelled, counting, signalled, waited};
 
-use crate::Memory;
+use crate::memory::Memory;
 use std::alloc::Global;
 use std::collections::VecDeque;
 use std::marker::Model;
