@@ -1,0 +1,4 @@
+mod Kept
+mod Maps
+mod OneLock
+mod Queues
