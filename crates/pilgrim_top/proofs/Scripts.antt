@@ -6,7 +6,7 @@ use Rattle.std.proofs.lemmas.List.{reverse-append}
 use Rattle.std.proofs.lemmas.List.Elements.{All-push}
 use Rattle.clu_tree.specs.declared.program.Program.{Program}
 use Rattle.world_types.specs.declared.event.Event.{Event}
-use Rattle.world_types.specs.declared.event.Event.TheVariants.{Turn}
+use Rattle.world_types.specs.declared.event.Event.TheVariants.{Turn, Tick}
 use Rattle.world_types.specs.declared.event.Told.{Told}
 use Rattle.world_types.specs.declared.effects.Entry.{Entry}
 use Rattle.world_rules.specs.Laws.{FollowingLaws}
@@ -17,19 +17,20 @@ use Rattle.journal_text.specs.Grammar.{InGrammar, IsEvent, most_lines}
 use Rattle.journal_text.specs.Spelling.{spelled}
 use Rattle.outside_edge.specs.Laws.{RowLaws}
 use Rattle.outside_edge.specs.Sink.{SinkTold, Wrote, Began}
-use Rattle.debug_world.specs.Seen.{Adds, IsTurn, Refuses, Seen}
+use Rattle.debug_world.specs.Seen.{Adds, MayBeApplied, Refuses, Seen}
 use Rattle.pilgrim_top.specs.Ends.{Says}
 use Rattle.pilgrim_top.specs.Script.{Applied, AppliesLine, Gained, IsRefused, illegal, RanOut, RunsScript, entry_text, refusal_text}
 use Rattle.pilgrim_top.specs.declared.stop.Stop.{Stop}
 use Rattle.pilgrim_top.specs.declared.stop.Stop.TheVariants.{Unread, Cut, Memory}
 
--- a line of the grammar is a turn that can be applied
-is_turn : (event : Event) → IsEvent event → IsTurn event
-is_turn (Turn node steps reading) h = (h.1.0, h.1.1)
-is_turn event h = elim h [ ]
+-- a line of the grammar can be applied
+may_be : (event : Event) → IsEvent event → MayBeApplied event
+may_be (Turn node steps reading) h = (h.1.0, h.1.1)
+may_be (Tick node) h = tt
+may_be event h = elim h [ ]
 
-pub turns : (line : Told) → InGrammar line → IsTurn line.event
-turns line h = is_turn line.event h.1
+pub applies : (line : Told) → InGrammar line → MayBeApplied line.event
+applies line h = may_be line.event h.1
 
 -- ---- what was applied
 

@@ -1,8 +1,8 @@
 //! A script of events, applied line by line.
 
-ghost use Rattle.std.specs.Prelude.{◌≡◌, ◌≤◌, []};
+ghost use Rattle.std.specs.Prelude.{◌≡◌, ◌≤◌, ◌<◌, ◌^◌, []};
 ghost use Rattle.clu_tree.specs.Typed.{IsTyped};
-ghost use Rattle.debug_world.specs.Seen.{IsTurn};
+ghost use Rattle.debug_world.specs.Seen.{MayBeApplied};
 ghost use Rattle.pilgrim_top.specs.Ends.{CountsPuts, Says};
 ghost use Rattle.pilgrim_top.specs.Script.{AppliesLine, RunsScript, refusal_text};
 
@@ -27,7 +27,8 @@ fn apply<K: Sink>(
     sink: &mut K,
     journal: &mut Vec<Entry>,
 ) -> Result<bool, Stop>
-    requires { IsTurn line.now.event }
+    requires event { MayBeApplied line.now.event }
+    requires early { line.now.stamp < 2 ^ 62 }
     ensures counts { CountsPuts (K.faults sink.old) (K.faults sink.new) result }
     ensures applies { AppliesLine world.old world.new journal.old.items journal.new.items (K.told sink.old) (K.told sink.new) line.now result }
 {
