@@ -9,14 +9,33 @@ use sqlite_items::Items;
 use std::alloc::{AllocError, Global};
 use std::test::Fail;
 
-/// So many times `put_line(line)`.
-fn lines(alloc: Global, line: &[u8], times: u32) -> Result<Items<Stmt>, AllocError>
+/// `sleep(ms)`, if a time is given.
+fn nap(alloc: Global, ms: Option<i64>) -> Result<Items<Stmt>, AllocError>
     ensures { IfOk result (λ body. All IsTypedStmt body) }
 {
     let mut body = Items::new(alloc);
+    if let Some(ms) = ms {
+        body.push(make::sleep(make::int_literal(ms, 2), 2))?;
+    }
+    Ok(body)
+}
+
+/// `put_line(line)`
+fn print(alloc: Global, line: &[u8]) -> Result<Stmt, AllocError>
+    ensures { IfOk result IsTypedStmt }
+{
+    let literal = make::string_literal(Text::from_slice(alloc, line)?, 2);
+    Ok(make::put_line(literal, 2))
+}
+
+/// A sleep, if a time is given, and so many times `put_line(line)`.
+fn lines(alloc: Global, ms: Option<i64>, line: &[u8], times: u32) -> Result<Items<Stmt>, AllocError>
+    ensures { IfOk result (λ body. All IsTypedStmt body) }
+{
+    let mut body = nap(alloc, ms)?;
     for _ in 0..times {
-        let literal = make::string_literal(Text::from_slice(alloc, line)?, 2);
-        body.push(make::put_line(literal, 2))?;
+        let stmt = print(alloc, line)?;
+        body.push(stmt)?;
     }
     Ok(body)
 }
@@ -42,19 +61,21 @@ fn hello(alloc: Global, body: Items<Stmt>) -> Result<Program, AllocError>
     ))
 }
 
-/// What the acts of the steps were, a letter each: the process went on, printed this line, or ended with nil.
+/// What the acts of the steps were, a letter each: the process went on, printed this line, sleeps for 7 ms, or ended
+/// with nil.
 fn letter(act: &Act, line: &[u8]) -> u8 {
     match act {
         Act::Went => b'w',
         Act::Put(text) => { if text.as_slice() == line { b'p' } else { b'?' } }
+        Act::Sleep(7) => b's',
         Act::Ended(Value::Nil) => b'e',
         _ => b'?',
     }
 }
 
 /// The letters of the steps from the start to the end.
-fn letters(alloc: Global, line: &[u8], times: u32) -> Result<Vec<u8>, AllocError> {
-    let program = hello(alloc, lines(alloc, line, times)?)?;
+fn letters(alloc: Global, ms: Option<i64>, line: &[u8], times: u32) -> Result<Vec<u8>, AllocError> {
+    let program = hello(alloc, lines(alloc, ms, line, times)?)?;
     let mut process = Process::new(alloc, &program, 0, Vec::new(alloc))?;
     let mut letters = Vec::new(alloc);
     for time in 0..100 {
@@ -73,9 +94,17 @@ fn letters(alloc: Global, line: &[u8], times: u32) -> Result<Vec<u8>, AllocError
 
 #[test]
 fn steps_have_their_acts(rt: HostRuntime) -> Result<(), Fail> {
-    for (times, want) in [(0, "e"), (1, "wwpe"), (2, "wwpwwpe")] {
-        let got = letters(rt.alloc(), b"hi", times)?;
-        assert_eq!(rt; got.as_slice(), want.as_bytes(), "{times} statements");
+    for (ms, times, want) in [
+        (None, 0, "e"),
+        (None, 1, "wwpe"),
+        (None, 2, "wwpwwpe"),
+        (Some(7), 0, "wwse"),
+        (Some(7), 1, "wwswwpe"),
+        (Some(0), 0, "wwwe"),
+        (Some(-7), 0, "wwwe"),
+    ] {
+        let got = letters(rt.alloc(), ms, b"hi", times)?;
+        assert_eq!(rt; got.as_slice(), want.as_bytes(), "{ms:?} {times}");
     }
     Ok(())
 }
@@ -83,7 +112,7 @@ fn steps_have_their_acts(rt: HostRuntime) -> Result<(), Fail> {
 #[test]
 fn steps_are_counted(rt: HostRuntime) -> Result<(), Fail> {
     for (times, want) in [(0, 1), (1, 4), (21, 64), (22, 67)] {
-        let got = letters(rt.alloc(), b"x", times)?;
+        let got = letters(rt.alloc(), None, b"x", times)?;
         assert_eq!(rt; got.len(), want, "{times} statements");
     }
     Ok(())

@@ -276,7 +276,7 @@ added_turn v node node' list list' last stamp n r limit k y m unspent same most_
     at_one : (j : ℕ) → 1 ≡ j → none_fails node.program list (turned stamp j limit r) → list' ≡ list ++ turned stamp j k r ∷ [] → Added v node' list' (turned stamp j limit r) (turned stamp j k r) y
     at_one j e = subst (λ (i : ℕ). none_fails node.program list (turned stamp i limit r) → list' ≡ list ++ turned stamp i k r ∷ [] → Added v node' list' (turned stamp i limit r) (turned stamp i k r) y) e
         (λ none q. let f = follow_turn node.program node.state node'.state list last stamp r limit k y (known node list last false m.keeps refl) (record { most_of = most_of; turned = took }) none in
-          added_by v node node' list list' last (turned stamp 1 limit r) (turned stamp 1 k r) y m.is unspent same q f.most_is f.follow)
+        added_by v node node' list list' last (turned stamp 1 limit r) (turned stamp 1 k r) y m.is unspent same q f.most_is f.follow)
 
 pub added_tick : (v : Seen) (node node' : Kept) (list list' : List Told) (last stamp n : ℕ) (y : Effects) → Met v node list last (ticked stamp n) →
     node'.spent ≡ false → node'.program ≡ node.program → tick node.state stamp ≡ Some (node'.state, y) → list' ≡ list ++ ticked stamp n ∷ [] → Added v node' list' (ticked stamp n) (ticked stamp n) y
@@ -285,7 +285,7 @@ added_tick v node node' list list' last stamp n y m unspent same ticks longer = 
     at_one : (j : ℕ) → 1 ≡ j → none_fails node.program list (ticked stamp j) → list' ≡ list ++ ticked stamp j ∷ [] → Added v node' list' (ticked stamp j) (ticked stamp j) y
     at_one j e = subst (λ (i : ℕ). none_fails node.program list (ticked stamp i) → list' ≡ list ++ ticked stamp i ∷ [] → Added v node' list' (ticked stamp i) (ticked stamp i) y) e
         (λ none q. added_by v node node' list list' last (ticked stamp 1) (ticked stamp 1) y m.is unspent same q refl
-          (follow_tick node.program node.state node'.state list last stamp y (known node list last false m.keeps refl) ticks none))
+        (follow_tick node.program node.state node'.state list last stamp y (known node list last false m.keeps refl) ticks none))
 
 -- ---- what isn't refused is possible
 

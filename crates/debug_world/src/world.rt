@@ -159,7 +159,8 @@ impl<'p> DebugWorld<'p> {
         let Ok(()) = self.list.push(Told {
             stamp,
             event: Event::Tick { node },
-        }) else {
+        })
+        else {
             return Err(WorldFault::Memory);
         };
         self.last = stamp;

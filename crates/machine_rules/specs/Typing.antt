@@ -2,11 +2,9 @@
 use Rattle.std.specs.Prelude.{◌≡◌, ℕ, List, [], ◌∷◌, ◌++◌, Option, Some, None, slice_get}
 use Rattle.clu_tree.specs.Typed.{ExprHas, IsTypedStmt, LiteralHas}
 use Rattle.clu_tree.specs.declared.value.Value.{Value}
-use Rattle.clu_tree.specs.declared.value.Value.TheVariants as value
 use Rattle.clu_tree.specs.declared.shape.Shape.{Shape}
 use Rattle.clu_tree.specs.declared.shape.Shape.TheVariants as shape
 use Rattle.clu_tree.specs.declared.shape.Named.{Named, out-Named}
-use Rattle.clu_tree.specs.declared.tree.Expr.{Expr}
 use Rattle.clu_tree.specs.declared.program.Routine.{Routine}
 use Rattle.clu_tree.specs.declared.program.Program.{Program}
 use Rattle.machine_rules.specs.declared.item.Item.{Item}

@@ -7,6 +7,9 @@ use world_types::Event;
 
 const HELLO: &str = "hello = proc ()\n  put_line(\"hi\")\nend hello\nnode 1 is start hello() end\n";
 
+const NAP: &str =
+    "nap = proc ()\n  sleep(100)\n  put_line(\"up\")\nend nap\nnode 1 is start nap() end\n";
+
 /// A shelf with a program and a script, of which the loads with these numbers fail.
 fn shelf_of(
     alloc: Global,
@@ -162,7 +165,7 @@ fn scripts_run_up_to_the_first_line_refused(rt: HostRuntime) -> Result<(), Fail>
         ),
         (
             HELLO,
-            "0 turn 1 64 0\n0 tick 1\n",
+            "0 turn 1 64 0\n0 halt 1\n",
             6,
             "1: hi\nscript refused at line 2\n",
             [4].as_slice(),
@@ -183,6 +186,73 @@ fn scripts_run_up_to_the_first_line_refused(rt: HostRuntime) -> Result<(), Fail>
         ),
     ] {
         replays(&rt, alloc, program, script, status, written, steps)?;
+    }
+    Ok(())
+}
+
+#[test]
+fn sleepers_wake_at_their_limit(rt: HostRuntime) -> Result<(), Fail> {
+    let alloc: Global = rt.alloc();
+    let refused = "script refused at line 2\n";
+    for (script, status, written, steps) in [
+        (
+            "0 turn 1 64 0\n100 tick 1\n100 turn 1 64 100\n",
+            0,
+            "1: up\n",
+            [3, 4].as_slice(),
+        ),
+        // The limit counts from the turn's reading, not from its stamp.
+        (
+            "10 turn 1 64 5\n105 tick 1\n200 turn 1 64 105\n",
+            0,
+            "1: up\n",
+            [3, 4].as_slice(),
+        ),
+        ("10 turn 1 64 5\n104 tick 1\n", 6, refused, [3].as_slice()),
+        ("0 turn 1 64 0\n99 tick 1\n", 6, refused, [3].as_slice()),
+        ("0 turn 1 64 0\n100 tick 2\n", 6, refused, [3].as_slice()),
+        (
+            "0 turn 1 64 0\n100 turn 1 64 100\n",
+            6,
+            refused,
+            [3].as_slice(),
+        ),
+        (
+            "0 turn 1 64 0\n50 turn 1 64 50\n",
+            6,
+            refused,
+            [3].as_slice(),
+        ),
+        (
+            "0 turn 1 64 0\n100 tick 1\n100 tick 1\n",
+            6,
+            "script refused at line 3\n",
+            [3].as_slice(),
+        ),
+        ("0 tick 1\n", 6, "script refused at line 1\n", [].as_slice()),
+    ] {
+        replays(&rt, alloc, NAP, script, status, written, steps)?;
+    }
+    Ok(())
+}
+
+/// What is written, and the status, where the sink has so much room.
+fn in_room(alloc: Global, room: u64) -> Result<(u8, Vec<u8>), AllocError> {
+    let script = "0 turn 1 64 0\n100 tick 1\n100 turn 1 64 100\n";
+    let mut shelf = shelf_of(alloc, NAP, script, &[])?;
+    let mut sink = MemSink::new(alloc, Some(room));
+    let words = words_of(alloc, &["replay", "program", "script"])?;
+    let still = top_words(alloc, words.as_slice(), &mut shelf, &mut sink);
+    Ok((still.status, sink.taken().to_vec(alloc)?))
+}
+
+#[test]
+fn a_sink_takes_what_it_has_room_for(rt: HostRuntime) -> Result<(), Fail> {
+    let whole = b"1: up\n";
+    for room in 0..7 {
+        let (status, taken) = in_room(rt.alloc(), room as u64)?;
+        assert_eq!(rt; status, if room < 6 { 4 } else { 0 }, "{room}");
+        assert_eq!(rt; taken.as_slice(), &whole[..room], "{room}");
     }
     Ok(())
 }

@@ -1,5 +1,5 @@
 -- What a node keeps, when it can take steps, and what they do.
-use Rattle.std.specs.Prelude.{ℕ, zero, suc, ◌+◌, nat_abs, Bool, true, false, not, ◌&&◌, if◌then◌else◌, ◌==◌, nat_le, List, [], ◌∷◌, length, Option, Some, None, is_none, is_some}
+use Rattle.std.specs.Prelude.{ℕ, zero, suc, ◌+◌, nat_abs, Bool, not, ◌&&◌, if◌then◌else◌, ◌==◌, nat_le, List, [], ◌∷◌, length, Option, Some, None, is_none, is_some}
 use Rattle.std.specs.List.{filter, list_any}
 use Rattle.std.specs.Str.{bytes_eq}
 use Rattle.clu_tree.specs.declared.value.Value.{Value}

@@ -33,13 +33,13 @@ returns-in-Over c =
 pub loop-steps-preserved : goal.loop-steps-preserved
 loop-steps-preserved c =
     let on = goes_on c.args.program.now c.args.number c.args.time c.loop-steps.steps c.args.process c.step.new.self c.in_ok-act.field-0.act c.note.new.effects
-        (record {
-          took = took_more c.args.program.now c.args.number c.args.time c.loop-steps.steps c.args.process c.loop-steps.process c.step.new.self c.in_ok-act.field-0.left c.in_ok-act.field-0.act c.loop-steps.effects c.note.new.effects
-              c.loop-steps.invariant.taken c.in_ok-act.ensures.row c.in_ok-note.ensures.effects;
-          act = on_fits (bare_world c.args.program.now c.args.time) c.loop-steps.process c.step.new.self c.in_ok-act.field-0.left c.in_ok-act.field-0.act c.in_ok-act.ensures.row;
-          fits = c.in_ok-act.ensures.fits;
-        })
-        (sym c.in-Ready.is ∙ c.in_ok-note.ensures.after) in
+    (record {
+      took = took_more c.args.program.now c.args.number c.args.time c.loop-steps.steps c.args.process c.loop-steps.process c.step.new.self c.in_ok-act.field-0.left c.in_ok-act.field-0.act c.loop-steps.effects c.note.new.effects
+          c.loop-steps.invariant.taken c.in_ok-act.ensures.row c.in_ok-note.ensures.effects;
+      act = on_fits (bare_world c.args.program.now c.args.time) c.loop-steps.process c.step.new.self c.in_ok-act.field-0.left c.in_ok-act.field-0.act c.in_ok-act.ensures.row;
+      fits = c.in_ok-act.ensures.fits;
+    })
+    (sym c.in-Ready.is ∙ c.in_ok-note.ensures.after) in
     record {
       taken = on.0;
       within = omega arith;

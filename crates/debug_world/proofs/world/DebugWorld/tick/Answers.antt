@@ -12,7 +12,7 @@ pub unreachable-requires : goal.unreachable-requires
 unreachable-requires c =
     let i = c.self.inside in
     let can = can_tick c.args.self.now i.node i.list i.last c.args.stamp c.args.node
-        (met c.args.self.now i.node i.list i.last i.spent (ticked c.args.stamp c.args.node) c.tick_refusal.result c.self.view_is c.if-self.false c.self.invariant (sym c.in_default.is) c.tick_refusal.ensures) in
+    (met c.args.self.now i.node i.list i.last i.spent (ticked c.args.stamp c.args.node) c.tick_refusal.result c.self.view_is c.if-self.false c.self.invariant (sym c.in_default.is) c.tick_refusal.ensures) in
     (rw c.in-Err-Illegal.field-0-is at c.in-Err-Illegal.ensures.possible) can.0 can.1 can.2 refl
 
 pub invariant_of-self-2 : goal.invariant_of-self-2

@@ -21,7 +21,7 @@ pub unreachable-requires : goal.unreachable-requires
 unreachable-requires c =
     let i = c.self.inside in
     let can = can_turn c.args.self.now i.node i.list i.last c.args.stamp c.args.node c.args.reading c.args.steps
-        (met c.args.self.now i.node i.list i.last i.spent (turned c.args.stamp c.args.node c.args.steps c.args.reading) c.turn_refusal.result c.self.view_is c.if-self.false c.self.invariant (sym c.in_default.is) (c.turn_refusal.ensures c.args.steps)) in
+    (met c.args.self.now i.node i.list i.last i.spent (turned c.args.stamp c.args.node c.args.steps c.args.reading) c.turn_refusal.result c.self.view_is c.if-self.false c.self.invariant (sym c.in_default.is) (c.turn_refusal.ensures c.args.steps)) in
     (rw c.in-Err-Illegal.field-0-is at c.in-Err-Illegal.ensures.goes_on) can.0 c.requires.some can.1 can.2 can.3 refl
 
 pub invariant_of-self-2 : goal.invariant_of-self-2
