@@ -1,25 +1,36 @@
 -- A line that is read is the line that was written, and what was written is read again.
-use Rattle.std.proofs.Common.{◌≡◌, ℕ, ◌-◌, ◌^◌, ◌<◌, List, [], ◌∷◌, ◌++◌, length, Some, refl, sym, ap, ◌∙◌, append_assoc, arith, inr}
+use Rattle.std.proofs.Common.{◌≡◌, ℕ, ◌-◌, ◌^◌, ◌<◌, List, [], ◌∷◌, ◌++◌, length, Some, refl, sym, ap, ◌∙◌, append_assoc, arith}
 use Rattle.std.specs.Prelude.{Result, Ok, Err, IfOk, MatchResult}
 use Rattle.std.specs.Fmt.{decimal}
 use Rattle.std.proofs.lemmas.List.{length-append}
 use Rattle.std.proofs.lemmas.Option.{some_pair_parts}
 use Rattle.world_types.specs.declared.event.Event.{Event}
-use Rattle.world_types.specs.declared.event.Event.TheVariants.{Turn, Tick}
+use Rattle.world_types.specs.declared.event.Event.TheVariants.{Turn, Packet, Tick, Stop, Halt, Resume, Ask, Answer, Set, Clear, HaltAll, ResumeAll, Say, Quit}
 use Rattle.world_types.specs.declared.event.Told.{Told}
 use Rattle.journal_text.specs.declared.fault.LineFault.{LineFault}
 use Rattle.journal_text.specs.declared.fault.LineFault.TheVariants.{Bad, Memory}
 use Rattle.journal_text.specs.Spelling.{spaced, event_words, spelled}
-use Rattle.journal_text.specs.Grammar.{IsEvent, InGrammar, BeginsWithNoLine}
+use Rattle.journal_text.specs.Grammar.{InGrammar, BeginsWithNoLine}
 use Rattle.journal_text.specs.Reading.{◌>>=◌, Gives, text_at, number_at, event_at, line_at}
 use Rattle.journal_text.proofs.Fields.{bind_some, some_has, none_is, text_takes, number_takes, number_again}
-use Rattle.journal_text.proofs.Events.{event_part}
+use Rattle.journal_text.proofs.Events.{event_taken, event_again}
 
 -- an event has a space at its front
-spaced-front : (event : Event) (rest : List ℕ) → IsEvent event → (more : List ℕ) × (spaced (event_words event) ++ rest ≡ 32 ∷ more)
-spaced-front (Turn node steps reading) rest fits = (_, refl)
-spaced-front (Tick node) rest fits = (_, refl)
-spaced-front _ rest fits = absurd fits
+spaced-front : (event : Event) (rest : List ℕ) → (more : List ℕ) × (spaced (event_words event) ++ rest ≡ 32 ∷ more)
+spaced-front (Turn node steps reading) rest = (_, refl)
+spaced-front (Packet node sender index) rest = (_, refl)
+spaced-front (Tick node) rest = (_, refl)
+spaced-front (Stop node) rest = (_, refl)
+spaced-front (Halt node) rest = (_, refl)
+spaced-front (Resume node) rest = (_, refl)
+spaced-front (Ask node question) rest = (_, refl)
+spaced-front (Answer node) rest = (_, refl)
+spaced-front (Set node line) rest = (_, refl)
+spaced-front (Clear node line) rest = (_, refl)
+spaced-front HaltAll rest = (_, refl)
+spaced-front (ResumeAll until) rest = (_, refl)
+spaced-front (Say why) rest = (_, refl)
+spaced-front Quit rest = (_, refl)
 
 pub line_takes : (bytes : List ℕ) (x : Told × List ℕ) → line_at bytes ≡ Some x → (bytes ≡ spelled x.0 ++ x.1) × InGrammar x.0
 unfolding line_at
@@ -28,7 +39,7 @@ line_takes bytes x e =
     let b = bind_some (event_at a.0.1) (λ event. text_at (10 ∷ []) event.1 >>= λ rest. Some (record { stamp = a.0.0; event = event.0 }, rest)) x a.2 in
     let c = bind_some (text_at (10 ∷ []) b.0.1) (λ rest. Some (record { stamp = a.0.0; event = b.0.0 }, rest)) x b.2 in
     let stamp = number_takes (2 ^ 62 - 1) bytes a.0 (omega arith) (omega arith) a.1 in
-    let event = event_part.taken a.0.1 b.0 b.1 in
+    let event = event_taken a.0.1 b.0 b.1 in
     let end = text_takes (10 ∷ []) b.0.1 c.0 c.1 in
     let told : Told = record { stamp = a.0.0; event = b.0.0 } in
     let whole : bytes ≡ spelled told ++ c.0 =
@@ -39,12 +50,12 @@ pub line_again : (told : Told) (rest : List ℕ) → InGrammar told → line_at 
 unfolding line_at text_at
 line_again told rest fits =
     let regrouped : spelled told ++ rest ≡ decimal told.stamp ++ (spaced (event_words told.event) ++ (10 ∷ rest)) = simp append_assoc in
-    let front = spaced-front told.event (10 ∷ rest) fits.1 in
+    let front = spaced-front told.event (10 ∷ rest) in
     let stamp : number_at (2 ^ 62 - 1) (decimal told.stamp ++ (spaced (event_words told.event) ++ (10 ∷ rest))) ≡ Some (told.stamp, spaced (event_words told.event) ++ (10 ∷ rest)) =
     ap (λ (after : List ℕ). number_at (2 ^ 62 - 1) (decimal told.stamp ++ after)) front.1
     ∙ number_again (2 ^ 62 - 1) told.stamp 32 front.0 (omega (arith, fits.0)) (omega (arith, fits.0)) refl
     ∙ ap (λ (after : List ℕ). Some (told.stamp, after)) (sym front.1) in
-    ap line_at regrouped ∙ rw (stamp, event_part.again told.event (10 ∷ rest) fits.1 (inr refl)) refl
+    ap line_at regrouped ∙ rw (stamp, event_again told.event rest fits.1) refl
 
 -- ---- what a reader of a line answers
 

@@ -1,5 +1,5 @@
 -- The parts of a line: what is read of each is what is spelled of it.
-use Rattle.std.proofs.Common.{◌≡◌, ℕ, ◌^◌, ◌<◌, ◌≤◌, false, cond, List, [], ◌∷◌, ◌++◌, Option, Some, None, refl, sym, ap, ◌∙◌, append_assoc, arith, inl, inr, ◌⊎◌}
+use Rattle.std.proofs.Common.{◌-◌, ◌≡◌, ℕ, ◌^◌, ◌<◌, ◌≤◌, false, cond, List, [], ◌∷◌, ◌++◌, Option, Some, None, refl, sym, ap, ◌∙◌, append_assoc, arith, inl, inr, ◌⊎◌}
 use Rattle.std.specs.Prelude.{◌==◌}
 use Rattle.std.specs.Fmt.{decimal}
 use Rattle.std.proofs.lemmas.Bool.{eqb-false, ne_eqb}
@@ -7,6 +7,7 @@ use Rattle.journal_text.specs.declared.word.Word.{Word}
 use Rattle.journal_text.specs.declared.word.Word.TheVariants as word
 use Rattle.journal_text.specs.declared.word.TheConstants.{WORDS}
 use Rattle.journal_text.specs.Spelling.{spaced}
+use Rattle.journal_text.specs.Grammar.{IsNode, IsNumber, IsSerial, IsStepCount, IsLine}
 use Rattle.journal_text.specs.Reading.{◌>>=◌, text_at, number_at, word_number_at, positive_at, word_text, word_or, first_word, word_at}
 use Rattle.journal_text.proofs.Fields.{bind_some, chosen, some_has, none_is, text_takes, number_takes, number_again}
 
@@ -56,13 +57,76 @@ spaced-then a b rest = ap (λ (t : List ℕ). t ++ rest) (spaced-append a b) ∙
 pub two_parts : (bytes : List ℕ) (a b : List (List ℕ)) (after rest : List ℕ) → bytes ≡ spaced a ++ after → after ≡ spaced b ++ rest → bytes ≡ spaced (a ++ b) ++ rest
 two_parts bytes a b after rest p q = p ∙ ap (λ (t : List ℕ). spaced a ++ t) q ∙ sym (spaced-then a b rest)
 
+-- with the same values said otherwise
+pub same_values : {X : Type 0} {read_at : List ℕ → Option (X × List ℕ)} {words : X → List (List ℕ)} {Is Is' : X → Type 0} → IsPart read_at words Is → ((x : X) → Is x → Is' x) → ((x : X) → Is' x → Is x) → IsPart read_at words Is'
+same_values part there back = record {
+  taken = λ bytes x e. let t = part.taken bytes x e in (t.0, there x.0 t.1);
+  again = λ x rest is behind. part.again x rest (back x is) behind;
+}
+
+-- ---- what is made of parts
+
+-- The words of what was read: those in front, and those with which the bytes begin.
+pub record IsTaken {X : Type 0} (words : X → List (List ℕ)) (Is : X → Type 0) (front : List (List ℕ)) (bytes : List ℕ) (x : X × List ℕ) : Type 0 where
+  pub more : List (List ℕ)
+  pub first : words x.0 ≡ front ++ more
+  pub parts : bytes ≡ spaced more ++ x.1
+  pub is : Is x.0
+
+-- what is made of a part, and of two
+abbrev pub made : {A X : Type 0} → (A → X) → A × List ℕ → Option (X × List ℕ)
+made make a = Some (make a.0, a.1)
+
+abbrev pub made_of_two : {A B X : Type 0} → (List ℕ → Option (B × List ℕ)) → (A → B → X) → A × List ℕ → Option (X × List ℕ)
+made_of_two read_b make a = read_b a.1 >>= made (make a.0)
+
+module _ {X : Type 0} (words : X → List (List ℕ)) (Is : X → Type 0) (front : List (List ℕ)) where
+  pub joined : (bytes after : List ℕ) (x : X × List ℕ) → bytes ≡ spaced front ++ after → IsTaken words Is front after x → (bytes ≡ spaced (words x.0) ++ x.1) × Is x.0
+  joined bytes after x e t = (two_parts bytes front t.more after x.1 e t.parts ∙ ap (λ (ws : List (List ℕ)). spaced ws ++ x.1) (sym t.first), t.is)
+
+  -- of no part
+  pub alone_taken : (whole : X) → words whole ≡ front ++ [] → Is whole → (bytes : List ℕ) (x : X × List ℕ) → Some (whole, bytes) ≡ Some x → IsTaken words Is front bytes x
+  alone_taken whole first is bytes x e = some_has (IsTaken words Is front bytes) (whole, bytes) x e (record { more = []; first = first; parts = refl; is = is })
+
+  -- of one part
+  pub one_taken : {A : Type 0} {read_at : List ℕ → Option (A × List ℕ)} {words_a : A → List (List ℕ)} {IsA : A → Type 0} → IsPart read_at words_a IsA → (make : A → X)
+      → ((a : A) → IsA a → (words (make a) ≡ front ++ words_a a) × Is (make a)) → (bytes : List ℕ) (x : X × List ℕ) → (read_at bytes >>= made make) ≡ Some x → IsTaken words Is front bytes x
+  one_taken {words_a = words_a} part make fits bytes x e =
+      let a = step part (made make) bytes x e in
+      let f = fits a.value a.is in
+      some_has (IsTaken words Is front bytes) (make a.value, a.rest) x a.goes_on (record { more = words_a a.value; first = f.0; parts = a.parts; is = f.1 })
+
+  -- of two parts
+  pub two_taken : {A B : Type 0} {read_a : List ℕ → Option (A × List ℕ)} {words_a : A → List (List ℕ)} {IsA : A → Type 0} {read_b : List ℕ → Option (B × List ℕ)} {words_b : B → List (List ℕ)} {IsB : B → Type 0}
+      → IsPart read_a words_a IsA → IsPart read_b words_b IsB → (make : A → B → X)
+      → ((a : A) (b : B) → IsA a → IsB b → (words (make a b) ≡ front ++ (words_a a ++ words_b b)) × Is (make a b))
+      → (bytes : List ℕ) (x : X × List ℕ) → (read_a bytes >>= made_of_two read_b make) ≡ Some x → IsTaken words Is front bytes x
+  two_taken {words_a = words_a} {read_b = read_b} {words_b = words_b} part_a part_b make fits bytes x e =
+      let a = step part_a (made_of_two read_b make) bytes x e in
+      let b = step part_b (made (make a.value)) a.rest x a.goes_on in
+      let f = fits a.value b.value a.is b.is in
+      some_has (IsTaken words Is front bytes) (make a.value b.value, b.rest) x b.goes_on
+      (record { more = words_a a.value ++ words_b b.value; first = f.0; parts = two_parts bytes (words_a a.value) (words_b b.value) a.rest b.rest a.parts b.parts; is = f.1 })
+
+pub one_again : {A X : Type 0} {read_at : List ℕ → Option (A × List ℕ)} {words_a : A → List (List ℕ)} {IsA : A → Type 0} → IsPart read_at words_a IsA → (make : A → X)
+    → (a : A) (rest : List ℕ) → IsA a → IsBehind rest → (read_at (spaced (words_a a) ++ rest) >>= made make) ≡ Some (make a, rest)
+one_again part make a rest is behind = step_again part (made make) a rest is behind
+
+pub two_again : {A B X : Type 0} {read_a : List ℕ → Option (A × List ℕ)} {words_a : A → List (List ℕ)} {IsA : A → Type 0} {read_b : List ℕ → Option (B × List ℕ)} {words_b : B → List (List ℕ)} {IsB : B → Type 0}
+    → IsPart read_a words_a IsA → IsPart read_b words_b IsB → (make : A → B → X)
+    → (a : A) (b : B) (rest : List ℕ) → IsA a → IsB b → IsBehind rest → (read_a (spaced (words_a a ++ words_b b) ++ rest) >>= made_of_two read_b make) ≡ Some (make a b, rest)
+two_again {read_a = read_a} {words_a = words_a} {read_b = read_b} {words_b = words_b} part_a part_b make a b rest is_a is_b behind =
+    ap (λ (t : List ℕ). read_a t >>= made_of_two read_b make) (spaced-then (words_a a) (words_b b) rest)
+    ∙ step_again part_a (made_of_two read_b make) a (spaced (words_b b) ++ rest) is_a (behind-spaced (words_b b) rest behind)
+    ∙ step_again part_b (made (make a)) b rest is_b behind
+
 -- ---- numbers
 
 abbrev pub one_word : ℕ → List (List ℕ)
 one_word n = decimal n ∷ []
 
 -- one word
-one_spaced : (word rest : List ℕ) → spaced (word ∷ []) ++ rest ≡ 32 ∷ (word ++ rest)
+pub one_spaced : (word rest : List ℕ) → spaced (word ∷ []) ++ rest ≡ 32 ∷ (word ++ rest)
 one_spaced word rest = ap (λ (t : List ℕ). 32 ∷ t) (append_assoc word [] rest)
 
 pub number_part : (largest : ℕ) → 9 ≤ largest → largest < 2 ^ 64 → IsPart (word_number_at largest) one_word (λ n. n ≤ largest)
@@ -117,10 +181,40 @@ first_word-taken : (words : List Word) (bytes : List ℕ) (x : Word × List ℕ)
 first_word-taken [] bytes x e = none_is x e
 first_word-taken (w ∷ words) bytes x e = word_or-taken w bytes (text_at (word_text w) bytes) (first_word words bytes) x refl (first_word-taken words bytes x) e
 
-word-again : (w : Word) (b : ℕ) (rest : List ℕ) → (b ≡ 32) ⊎ (b ≡ 10) → first_word WORDS (word_text w ++ (b ∷ rest)) ≡ Some (w, b ∷ rest)
+-- what stands behind a word goes on with none that it begins
+word-again : (w : Word) (b : ℕ) (rest : List ℕ) → (b == 97) ≡ false → first_word WORDS (word_text w ++ (b ∷ rest)) ≡ Some (w, b ∷ rest)
 unfolding text_at
-word-again word.Turn b rest behind = refl
-word-again word.Tick b rest behind = refl
+word-again word.Turn b rest other = refl
+word-again word.Packet b rest other = refl
+word-again word.Tick b rest other = refl
+word-again word.Stop b rest other = refl
+word-again word.HaltAll b rest other = refl
+word-again word.Halt b rest other = rw other refl
+word-again word.ResumeAll b rest other = refl
+word-again word.Resume b rest other = rw other refl
+word-again word.Ask b rest other = refl
+word-again word.Answer b rest other = refl
+word-again word.Set b rest other = refl
+word-again word.Clear b rest other = refl
+word-again word.Say b rest other = refl
+word-again word.Quit b rest other = refl
+word-again word.Ps b rest other = refl
+word-again word.Where b rest other = refl
+word-again word.Caller b rest other = refl
+word-again word.Vars b rest other = refl
+word-again word.Print b rest other = refl
+word-again word.Calls b rest other = refl
+word-again word.Time b rest other = refl
+word-again word.Once b rest other = refl
+word-again word.Maybe b rest other = refl
+word-again word.Unknown b rest other = refl
+word-again word.Node b rest other = refl
+word-again word.Changes b rest other = refl
+
+-- a space or a line's end is no letter
+not_a : (b : ℕ) → (b ≡ 32) ⊎ (b ≡ 10) → (b == 97) ≡ false
+not_a b (inl space) = rw space refl
+not_a b (inr end) = rw end refl
 
 pub word_part : IsPart word_at itself (λ w. Unit {0})
 unfolding word_at text_at
@@ -133,4 +227,21 @@ word_part = record { taken = taken; again = again }
 
     again : (w : Word) (rest : List ℕ) → Unit {0} → IsBehind rest → word_at (spaced (itself w) ++ rest) ≡ Some (w, rest)
     again w [] is behind = absurd behind
-    again w (b ∷ rest) is behind = ap word_at (one_spaced (word_text w) (b ∷ rest)) ∙ word-again w b rest behind
+    again w (b ∷ rest) is behind = ap word_at (one_spaced (word_text w) (b ∷ rest)) ∙ word-again w b rest (not_a b behind)
+
+-- ---- numbers of the grammar
+
+pub node_part : IsPart (word_number_at (2 ^ 32 - 1)) one_word IsNode
+node_part = same_values (number_part (2 ^ 32 - 1) (omega arith) (omega arith)) (λ n small. omega (arith, small)) (λ n small. omega (arith, small))
+
+pub long_part : IsPart (word_number_at (2 ^ 62 - 1)) one_word IsNumber
+long_part = same_values (number_part (2 ^ 62 - 1) (omega arith) (omega arith)) (λ n small. omega (arith, small)) (λ n small. omega (arith, small))
+
+pub serial_part : IsPart (word_number_at (2 ^ 62)) one_word IsSerial
+serial_part = number_part (2 ^ 62) (omega arith) (omega arith)
+
+pub steps_part : IsPart (positive_at 64) one_word IsStepCount
+steps_part = positive_part 64 (omega arith) (omega arith)
+
+pub line_part : IsPart (positive_at 1048576) one_word IsLine
+line_part = positive_part 1048576 (omega arith) (omega arith)

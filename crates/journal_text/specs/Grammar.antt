@@ -1,8 +1,10 @@
 -- Which lines there are.
-use Rattle.std.specs.Prelude.{◌≡◌, ◌≢◌, ℕ, ◌+◌, ◌^◌, ◌<◌, ◌≤◌, List, [], ◌++◌, All, length, ◌⊎◌}
+use Rattle.std.specs.Prelude.{◌≡◌, ◌≢◌, ℕ, ◌+◌, ◌^◌, ◌<◌, ◌≤◌, Bool, ◌&&◌, ◌||◌, ◌==◌, nat_le, IsTrue, List, [], ◌∷◌, ◌++◌, All, length, ◌⊎◌, IfSome}
 use Rattle.std.specs.List.{flat_map}
 use Rattle.world_types.specs.declared.event.Event.{Event}
-use Rattle.world_types.specs.declared.event.Event.TheVariants.{Turn, Tick}
+use Rattle.world_types.specs.declared.event.Event.TheVariants.{Turn, Packet, Tick, Stop, Halt, Resume, Ask, Answer, Set, Clear, HaltAll, ResumeAll, Say, Quit}
+use Rattle.world_types.specs.declared.event.Question.{Question}
+use Rattle.world_types.specs.declared.event.Question.TheVariants.{Ps, Trace, Caller, Vars, Print, Calls, Time}
 use Rattle.world_types.specs.declared.event.Told.{Told}
 use Rattle.journal_text.specs.Spelling.{spelled}
 
@@ -10,19 +12,65 @@ use Rattle.journal_text.specs.Spelling.{spelled}
 abbrev pub IsNode : ℕ → Type 0
 IsNode node = node < 2 ^ 32
 
--- a stamp, a reading or a packet's place
+-- a stamp, a reading, a packet's place or a time
 abbrev pub IsNumber : ℕ → Type 0
 IsNumber number = number < 2 ^ 62
+
+-- the number of a process or of a call
+abbrev pub IsSerial : ℕ → Type 0
+IsSerial number = number ≤ 2 ^ 62
 
 -- how many steps a turn may have
 abbrev pub IsStepCount : ℕ → Type 0
 IsStepCount steps = (0 < steps) × (steps ≤ 64)
 
--- the event is one that is read, with its numbers within their bounds
+-- a line of a program
+abbrev pub IsLine : ℕ → Type 0
+IsLine line = (0 < line) × (line ≤ 1048576)
+
+-- `0` to `9`
+abbrev pub is_digit : ℕ → Bool
+is_digit b = nat_le 48 b && nat_le b 57
+
+-- `a` to `z`
+abbrev pub is_letter : ℕ → Bool
+is_letter b = nat_le 97 b && nat_le b 122
+
+-- what may follow in a name: a lower-case letter, a digit or `_`
+abbrev pub is_name_byte : ℕ → Bool
+is_name_byte b = is_letter b || is_digit b || b == 95
+
+-- the name of a variable, at most 64 bytes: a lower-case letter, and what may follow in a name
+abbrev pub IsName : List ℕ → Type 0
+IsName [] = ⊥
+IsName (b ∷ bytes) = IsTrue (is_letter b) × All (λ x. IsTrue (is_name_byte x)) bytes × (length bytes < 64)
+
+-- the numbers and the name of a question are within their bounds
+abbrev pub IsQuestion : Question → Type 0
+IsQuestion Ps = Unit {0}
+IsQuestion (Trace process) = IsSerial process
+IsQuestion (Caller kind seq) = IsSerial seq
+IsQuestion (Vars process) = IsSerial process
+IsQuestion (Print process name) = IsSerial process × IsName name
+IsQuestion Calls = Unit {0}
+IsQuestion Time = Unit {0}
+
+-- the numbers and names of an event are within their bounds
 abbrev pub IsEvent : Event → Type 0
 IsEvent (Turn node steps reading) = IsNode node × IsStepCount steps × IsNumber reading
+IsEvent (Packet node sender index) = IsNode node × IsNode sender × IsNumber index
 IsEvent (Tick node) = IsNode node
-IsEvent _ = ⊥
+IsEvent (Stop node) = IsNode node
+IsEvent (Halt node) = IsNode node
+IsEvent (Resume node) = IsNode node
+IsEvent (Ask node question) = IsNode node × IsQuestion question
+IsEvent (Answer node) = IsNode node
+IsEvent (Set node line) = IsNode node × IsLine line
+IsEvent (Clear node line) = IsNode node × IsLine line
+IsEvent HaltAll = Unit {0}
+IsEvent (ResumeAll until) = IfSome until IsNumber
+IsEvent (Say word) = Unit {0}
+IsEvent Quit = Unit {0}
 
 -- the line is one that a journal may have
 abbrev pub InGrammar : Told → Type 0

@@ -1,4 +1,10 @@
+ghost use Rattle.std.specs.Prelude.{◌≡◌};
+
+use std::alloc::AllocError;
 use thiserror::Error;
+
+/// Memory ran out.
+pub type Memory = AllocError;
 
 /// Why no line was taken.
 #[derive(Clone, Copy, Debug, PartialEq, Eq, Drop, Error)]
@@ -8,6 +14,16 @@ pub enum LineFault {
     Bad,
     #[error("out of memory")]
     Memory,
+}
+
+impl From<AllocError> for LineFault {
+    ghost use Rattle.journal_text.specs.declared.fault.LineFault.TheVariants.{Memory};
+
+    ghost from_gives = { λ _ e. e ≡ Memory };
+
+    fn from(_e: AllocError) -> LineFault {
+        LineFault::Memory
+    }
 }
 
 /// Why a journal was not read.

@@ -1,7 +1,14 @@
-ghost use Rattle.std.specs.Prelude.{◌≡◌, ◌≤◌, ◌<◌, ◌^◌, length, IfSome, IfOk};
+ghost use Rattle.std.specs.Prelude.{◌≡◌, ◌≤◌, ◌<◌, ◌-◌, ◌^◌, length, IfSome, IfOk};
 ghost use Rattle.journal_text.specs.Reading.{Finds, Gives, text_at, digit_at, number_at, word_number_at, positive_at};
 
 use crate::fault::LineFault;
+
+/// The largest stamp, reading, place of a packet or time.
+pub const LARGEST: u64 = (1 << 62) - 1;
+
+const LARGEST_NODE: u64 = (1 << 32) - 1;
+
+const LAST_LINE: u64 = 1_048_576;
 
 /// The bytes behind the text that they begin with.
 pub fn after<'a>(bytes: &'a [u8], text: &[u8]) -> Result<&'a [u8], LineFault>
@@ -68,4 +75,20 @@ pub fn positive(bytes: &[u8], largest: u64) -> Result<(u64, &[u8]), LineFault>
         return Err(LineFault::Bad);
     }
     Ok((value, rest))
+}
+
+/// The number of a node behind the space at the front.
+pub fn node_number(bytes: &[u8]) -> Result<(u32, &[u8]), LineFault>
+    ensures { Gives (λ x. (x.0, x.1.now)) result (word_number_at (2 ^ 32 - 1) bytes.now) }
+{
+    let (node, rest) = word_number(bytes, LARGEST_NODE)?;
+    Ok((node as u32, rest))
+}
+
+/// The line of a program behind the space at the front.
+pub fn line_number(bytes: &[u8]) -> Result<(u32, &[u8]), LineFault>
+    ensures { Gives (λ x. (x.0, x.1.now)) result (positive_at 1048576 bytes.now) }
+{
+    let (line, rest) = positive(bytes, LAST_LINE)?;
+    Ok((line as u32, rest))
 }

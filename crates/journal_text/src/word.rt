@@ -9,19 +9,94 @@ use crate::field::after;
 #[derive(Clone, Copy, Debug, PartialEq, Eq, Drop)]
 pub enum Word {
     Turn,
+    Packet,
     Tick,
+    Stop,
+    HaltAll,
+    Halt,
+    ResumeAll,
+    Resume,
+    Ask,
+    Answer,
+    Set,
+    Clear,
+    Say,
+    Quit,
+    Ps,
+    Where,
+    Caller,
+    Vars,
+    Print,
+    Calls,
+    Time,
+    Once,
+    Maybe,
+    Unknown,
+    Node,
+    Changes,
 }
 
-/// All words.
-const WORDS: [Word; 2] = [Word::Turn, Word::Tick];
+/// All words; one with which another begins stands behind it.
+const WORDS: [Word; 26] = [
+    Word::Turn,
+    Word::Packet,
+    Word::Tick,
+    Word::Stop,
+    Word::HaltAll,
+    Word::Halt,
+    Word::ResumeAll,
+    Word::Resume,
+    Word::Ask,
+    Word::Answer,
+    Word::Set,
+    Word::Clear,
+    Word::Say,
+    Word::Quit,
+    Word::Ps,
+    Word::Where,
+    Word::Caller,
+    Word::Vars,
+    Word::Print,
+    Word::Calls,
+    Word::Time,
+    Word::Once,
+    Word::Maybe,
+    Word::Unknown,
+    Word::Node,
+    Word::Changes,
+];
 
 /// How the word is spelled.
-fn spelling(word: Word) -> &'static [u8]
+pub fn spelling(word: Word) -> &'static [u8]
     ensures { result.now ≡ reading.word_text word }
 {
     match word {
         Word::Turn => b"turn",
+        Word::Packet => b"packet",
         Word::Tick => b"tick",
+        Word::Stop => b"stop",
+        Word::HaltAll => b"haltall",
+        Word::Halt => b"halt",
+        Word::ResumeAll => b"resumeall",
+        Word::Resume => b"resume",
+        Word::Ask => b"ask",
+        Word::Answer => b"answer",
+        Word::Set => b"set",
+        Word::Clear => b"clear",
+        Word::Say => b"say",
+        Word::Quit => b"quit",
+        Word::Ps => b"ps",
+        Word::Where => b"where",
+        Word::Caller => b"caller",
+        Word::Vars => b"vars",
+        Word::Print => b"print",
+        Word::Calls => b"calls",
+        Word::Time => b"time",
+        Word::Once => b"once",
+        Word::Maybe => b"maybe",
+        Word::Unknown => b"unknown",
+        Word::Node => b"node",
+        Word::Changes => b"changes",
     }
 }
 

@@ -19,18 +19,18 @@ use Rattle.outside_edge.specs.Laws.{RowLaws}
 use Rattle.outside_edge.specs.Sink.{SinkTold, Wrote, Began}
 use Rattle.debug_world.specs.Seen.{Adds, MayBeApplied, Refuses, Seen}
 use Rattle.pilgrim_top.specs.Ends.{Says}
-use Rattle.pilgrim_top.specs.Script.{Applied, AppliesLine, Gained, IsRefused, illegal, RanOut, RunsScript, entry_text, refusal_text}
+use Rattle.pilgrim_top.specs.Script.{Applied, AppliesLine, Gained, IsRefused, can_run, illegal, RanOut, RunsScript, entry_text, refusal_text}
 use Rattle.pilgrim_top.specs.declared.stop.Stop.{Stop}
 use Rattle.pilgrim_top.specs.declared.stop.Stop.TheVariants.{Unread, Cut, Memory}
 
--- a line of the grammar can be applied
-may_be : (event : Event) → IsEvent event → MayBeApplied event
-may_be (Turn node steps reading) h = (h.1.0, h.1.1)
-may_be (Tick node) h = tt
-may_be event h = elim h [ ]
+-- a line of the grammar whose event can be run can be applied
+may_be : (event : Event) → IsEvent event → can_run event ≡ true → MayBeApplied event
+may_be (Turn node steps reading) h can = (h.1.0, h.1.1)
+may_be (Tick node) h can = tt
+may_be event h can = cc
 
-pub applies : (line : Told) → InGrammar line → MayBeApplied line.event
-applies line h = may_be line.event h.1
+pub applies : (line : Told) → InGrammar line → can_run line.event ≡ true → MayBeApplied line.event
+applies line h can = may_be line.event h.1 can
 
 -- ---- what was applied
 

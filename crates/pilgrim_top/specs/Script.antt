@@ -2,6 +2,8 @@
 use Rattle.std.specs.Prelude.{◌≡◌, ◌≢◌, ◌⊎◌, ◌≤◌, ℕ, ◌+◌, List, [], ◌∷◌, ◌++◌, All, length, reverse, codes, decimal, Bool, true, false, Option, Some, Result, Ok, Err}
 use Rattle.std.specs.List.{flat_map}
 use Rattle.clu_tree.specs.declared.program.Program.{Program}
+use Rattle.world_types.specs.declared.event.Event.{Event}
+use Rattle.world_types.specs.declared.event.Event.TheVariants.{Turn, Tick}
 use Rattle.world_types.specs.declared.event.Told.{Told}
 use Rattle.world_types.specs.declared.effects.Entry.{Entry}
 use Rattle.world_rules.specs.Laws.{past_of}
@@ -34,10 +36,18 @@ pub record Applied (program : Program) (script : List ℕ) (journal : List Entry
   pub legal : IsLegal program journal
   pub events : AreLines program (reverse lines) (reverse journal)
 
+-- the events that a script can have so far
+abbrev pub can_run : Event → Bool
+can_run (Turn node steps reading) = true
+can_run (Tick node) = true
+can_run event = false
+
 -- why the line at the front of the rest is refused
 pub data IsRefused (program : Program) (journal : List Entry) (rest : List ℕ) (count : ℕ) : Type 0 where
   -- it is outside the grammar
   outside : rest ≢ [] → BeginsWithNoLine rest → IsRefused program journal rest count
+  -- its event can't be run yet
+  not_yet : (line : Told) (more : List ℕ) → InGrammar line → rest ≡ spelled line ++ more → can_run line.event ≡ false → IsRefused program journal rest count
   -- it fails one of the numbered conditions of an entry
   illegal : (line : Told) (more : List ℕ) (number : ℕ) → InGrammar line → rest ≡ spelled line ++ more →
       first_failing (rules_of program) (first_of_program program) (past_of journal) line ≡ Some number → IsRefused program journal rest count

@@ -4,7 +4,7 @@ ghost use Rattle.std.specs.Prelude.{◌≡◌, ◌≤◌, ◌<◌, ◌^◌, []};
 ghost use Rattle.clu_tree.specs.Typed.{IsTyped};
 ghost use Rattle.debug_world.specs.Seen.{MayBeApplied};
 ghost use Rattle.pilgrim_top.specs.Ends.{CountsPuts, Says};
-ghost use Rattle.pilgrim_top.specs.Script.{AppliesLine, RunsScript, refusal_text};
+ghost use Rattle.pilgrim_top.specs.Script.{AppliesLine, RunsScript, can_run, refusal_text};
 
 use crate::stop::{Stop, say};
 use crate::written::written;
@@ -14,10 +14,20 @@ use journal_text::{LineFault, first_line};
 use outside_edge::{PutFault, Sink, puts_in_a_row};
 use std::alloc::Global;
 use world_rules::following_laws;
-use world_types::{Entry, Told};
+use world_types::{Entry, Event, Told};
 
 /// A script has at most this many lines.
 const MOST_LINES: u32 = 1_000_000;
+
+/// Whether a script can have the event so far: it is a turn or a tick.
+fn can_run(event: &Event) -> bool
+    ensures { result ≡ can_run event.now }
+{
+    match event {
+        Event::Turn { .. } | Event::Tick { .. } => true,
+        _ => false,
+    }
+}
 
 /// Applies one line, where it is legal: adds its entry to the journal, and writes it. Answers whether it was legal.
 fn apply<K: Sink>(
@@ -93,6 +103,9 @@ pub fn run_script<K: Sink>(
             Err(LineFault::Bad) => return refuse(alloc, sink, count),
             Err(LineFault::Memory) => return Err(Stop::Memory),
         };
+        if !can_run(&line.told.event) {
+            return refuse(alloc, sink, count);
+        }
         match apply(alloc, &mut world, &line.told, sink, journal) {
             Ok(true) => {}
             Ok(false) => return refuse(alloc, sink, count),

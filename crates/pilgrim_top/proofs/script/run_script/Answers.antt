@@ -1,5 +1,5 @@
-use Rattle.std.proofs.Common.{◌≢◌, ◌≤◌, ◌<◌, ℕ, refl, ◌∙◌, arith}
-use Rattle.pilgrim_top.specs.Script.{beyond, outside}
+use Rattle.std.proofs.Common.{◌≢◌, ◌≤◌, ◌<◌, ℕ, refl, sym, ◌∙◌, arith}
+use Rattle.pilgrim_top.specs.Script.{beyond, not_yet, outside}
 use Rattle.pilgrim_top.proofs.Scripts.{Line, applied_none, ends_at, ends_early, ends_refused, goes_on, not_empty, refused_line}
 use Rattle.pilgrim_top.proofs.script.run_script.Goals as goal
 
@@ -20,6 +20,11 @@ pub returns-in-Err-Bad-clause-runs : goal.returns-in-Err-Bad-clause-runs
 returns-in-Err-Bad-clause-runs g c =
     let i = c.loop-rest.invariant in
     ends_refused c.puts_in_a_row.ensures _ _ _ _ _ _ _ _ _ i.applied i.wrote (outside (not_empty _ _ c.is_empty.ensures c.loop-rest-test.true) ((rw c.in-Err-Bad.field-0-is at c.in-Err-Bad.ensures.bad) refl)) c.refuse-in-Err-Bad.ensures.says
+
+pub returns-then-not-can_run-clause-runs : goal.returns-then-not-can_run-clause-runs
+returns-then-not-can_run-clause-runs g c =
+    let i = c.loop-rest.invariant in
+    ends_refused c.puts_in_a_row.ensures _ _ _ _ _ _ _ _ _ i.applied i.wrote (not_yet _ _ c.in-Ok-first_line.ensures.grammar c.in-Ok-first_line.ensures.parts (sym c.can_run.ensures ∙ c.if-not-can_run.true)) c.refuse-then-not-can_run.ensures.says
 
 pub returns-in-Ok-false-clause-runs : goal.returns-in-Ok-false-clause-runs
 returns-in-Ok-false-clause-runs g c =

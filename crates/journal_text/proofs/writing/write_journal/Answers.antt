@@ -1,0 +1,5 @@
+use Rattle.journal_text.proofs.Sequence.{only_journal}
+use Rattle.journal_text.proofs.writing.write_journal.Goals as goal
+
+pub returns-clause-only : goal.returns-clause-only
+returns-clause-only c = only_journal c.args.lines.now c.put_lines.result c.put_lines.ensures c.requires.few c.requires.each
