@@ -6,3 +6,4 @@ mod world;
 
 pub use conditions::{HAS_READY, IS_DUE, NAMES_NODES, READS_IN_TIME, STAMP_RISES};
 pub use world::{DebugWorld, WorldFault};
+pub use world_types::{Entry, Told};

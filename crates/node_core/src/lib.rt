@@ -8,3 +8,4 @@ mod start;
 mod turn;
 
 pub use node::{Node, NodeFault};
+pub use world_types::{Effects, Line, Mark, Owner, Sent};
