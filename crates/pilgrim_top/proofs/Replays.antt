@@ -1,9 +1,10 @@
 -- What follows of how a replay ends.
-use Rattle.std.proofs.Common.{◌≡◌, ◌≢◌, ◌⊎◌, ◌<◌, inl, inr, ℕ, List, [], ◌++◌, Option, Result, Ok, Err, refl, sym, ◌∙◌, subst, arith, append-nil, string_bytes}
+use Rattle.std.proofs.Common.{◌≡◌, ◌≢◌, ◌⊎◌, ◌<◌, inl, inr, ℕ, List, [], ◌++◌, Option, Result, Ok, Err, refl, sym, ◌∙◌, subst, arith, append-nil, string_bytes, ap}
 use Rattle.clu_tree.specs.Typed.{IsAccepted}
 use Rattle.clu_tree.specs.declared.program.Program.{Program}
 use Rattle.world_types.specs.declared.effects.Entry.{Entry}
-use Rattle.world_rules.specs.Laws.{ErasingLaws}
+use Rattle.world_rules.specs.Laws.{ErasingLaws, FollowingLaws, PlainLaw}
+use Rattle.world_rules.specs.Legal.{ArePlain, tolds}
 use Rattle.world_rules.specs.Node.{IsLegal}
 use Rattle.world_rules.specs.Transcript.{transcript}
 use Rattle.outside_edge.specs.Laws.{RowLaws}
@@ -11,7 +12,7 @@ use Rattle.outside_edge.specs.Shelf.{ShelfTold, Loads}
 use Rattle.outside_edge.specs.Sink.{SinkTold, CutShort}
 use Rattle.pilgrim_top.specs.Ends.{CountsFaults, CountsPuts, Says, status_of}
 use Rattle.pilgrim_top.specs.Replay.{Replays, Unnoticed, unread, refused, unscripted, ran, ran_out}
-use Rattle.pilgrim_top.specs.Script.{RunsScript, Finishes}
+use Rattle.pilgrim_top.specs.Script.{CutIn, Finishes, RunsScript, entry_text, in_entry, in_text}
 use Rattle.pilgrim_top.specs.Top.{Does, EndText, LoadCause, LoadFailed, RoomCause, RoomLacks, ShowsUsage, first, no_text, of_program, of_script, second, usage_text}
 use Rattle.pilgrim_top.specs.declared.usage.Usage.{Usage}
 use Rattle.pilgrim_top.specs.declared.usage.Usage.TheVariants.{Check, Replay, Erase, Load, Run}
@@ -26,10 +27,16 @@ legal_of program lines sink sink' journal (Err Unread) h = absurd h
 legal_of program lines sink sink' journal (Err Cut) h = h.applied.legal
 legal_of program lines sink sink' journal (Err Memory) h = h.applied.legal
 
-pub unnoticed : (program : Program) (lines : List ℕ) (sink sink' : Option SinkTold) (journal : List Entry) (end : Result ℕ Stop) → ((p : Program) → ErasingLaws p) → RunsScript program lines sink sink' journal end → Unnoticed program journal
-unnoticed program lines sink sink' journal end laws h =
+plain_of : (program : Program) (lines : List ℕ) (sink sink' : Option SinkTold) (journal : List Entry) (end : Result ℕ Stop) → RunsScript program lines sink sink' journal end → ArePlain (tolds journal)
+plain_of program lines sink sink' journal (Ok status) h = h.applied.plain
+plain_of program lines sink sink' journal (Err Unread) h = absurd h
+plain_of program lines sink sink' journal (Err Cut) h = h.applied.plain
+plain_of program lines sink sink' journal (Err Memory) h = h.applied.plain
+
+pub unnoticed : (program : Program) (lines : List ℕ) (sink sink' : Option SinkTold) (journal : List Entry) (end : Result ℕ Stop) → ((p : Program) → ErasingLaws p) → ((p : Program) → PlainLaw p) → RunsScript program lines sink sink' journal end → Unnoticed program journal
+unnoticed program lines sink sink' journal end laws law h =
     let legal = legal_of program lines sink sink' journal end h in
-    record { same = (laws program).same journal legal; erased = (laws program).legal journal legal }
+    record { same = (laws program).same journal legal; erased = (laws program).legal journal legal; plainly = law program journal legal (plain_of program lines sink sink' journal end h) }
 
 -- ---- faults
 
@@ -109,36 +116,38 @@ alone_lacks : RowLaws → (sink sink' : Option SinkTold) (journal : List Entry) 
 alone_lacks row sink sink' journal text j cut = row.lacks sink sink' (transcript journal ++ text) (rw (alone journal text j) cut)
 
 -- a script whose writing was cut short
-script_cause : RowLaws → (file script bytes lines : List ℕ) (program : Program) (shelf mid shelf' : Option ShelfTold) (sink sink' : Option SinkTold) (journal : List Entry) →
+script_cause : RowLaws → ((p : Program) → FollowingLaws p) → (file script bytes lines : List ℕ) (program : Program) (shelf mid shelf' : Option ShelfTold) (sink sink' : Option SinkTold) (journal : List Entry) →
     Loads file shelf mid (Ok bytes) → IsAccepted bytes program → Loads script mid shelf' (Ok lines) → RunsScript program lines sink sink' journal (Err Cut) →
     (text : List ℕ) × EndText file script shelf shelf' journal text × RoomLacks sink sink' journal text
-script_cause row file script bytes lines program shelf mid shelf' sink sink' journal l a m h = by_which h.wrote
+script_cause row laws file script bytes lines program shelf mid shelf' sink sink' journal l a m h = by_which h.cut
   where
-    by_which : CutShort sink sink' (transcript journal) ⊎ ((status : ℕ) × (text : List ℕ) × Finishes program journal h.rest h.count status text × CutShort sink sink' (transcript journal ++ text)) →
-        (text : List ℕ) × EndText file script shelf shelf' journal text × RoomLacks sink sink' journal text
-    by_which (inl cut) = ([], no_text, row.lacks sink sink' (transcript journal ++ []) (rw (append-nil (transcript journal)) cut))
-    by_which (inr cut) = (cut.1, of_script bytes lines h.rest program mid h.count cut.0 cut.1 l a m h.applied cut.2, row.lacks sink sink' (transcript journal ++ cut.1) cut.3)
+    by_which : CutIn program sink sink' journal h.rest h.count → (text : List ℕ) × EndText file script shelf shelf' journal text × RoomLacks sink sink' journal text
+    by_which (in_entry before e at longer wrote cut) =
+        let whole : transcript journal ++ [] ≡ transcript before ++ entry_text e = append-nil (transcript journal) ∙ ap transcript longer ∙ (laws program).written before e in
+        ([], no_text, row.lacks sink sink' (transcript journal ++ []) (rw whole (row.cut sink at sink' (transcript before) (entry_text e) wrote cut)))
+    by_which (in_text status text at finishes wrote cut) =
+        (text, of_script bytes lines h.rest program mid h.count status text l a m h.applied finishes, row.lacks sink sink' (transcript journal ++ text) (row.cut sink at sink' (transcript journal) text wrote cut))
 
-cut_cause : RowLaws → (file script : List ℕ) (shelf shelf' : Option ShelfTold) (sink sink' : Option SinkTold) (journal : List Entry) → Replays file script shelf shelf' sink sink' journal (Err Cut) → (text : List ℕ) × EndText file script shelf shelf' journal text × RoomLacks sink sink' journal text
-cut_cause row file script shelf shelf' sink sink' journal (unread l j w e) = cc
-cut_cause row file script shelf shelf' sink sink' journal (refused bytes text l r j says) = (text, of_program bytes text l r, alone_lacks row sink sink' journal text j says)
-cut_cause row file script shelf shelf' sink sink' journal (unscripted bytes p mid l a m j w e) = cc
-cut_cause row file script shelf shelf' sink sink' journal (ran bytes p mid lines l a m run un) = script_cause row file script bytes lines p shelf mid shelf' sink sink' journal l a m run
-cut_cause row file script shelf shelf' sink sink' journal (ran_out l j w e) = cc
+cut_cause : RowLaws → ((p : Program) → FollowingLaws p) → (file script : List ℕ) (shelf shelf' : Option ShelfTold) (sink sink' : Option SinkTold) (journal : List Entry) → Replays file script shelf shelf' sink sink' journal (Err Cut) → (text : List ℕ) × EndText file script shelf shelf' journal text × RoomLacks sink sink' journal text
+cut_cause row laws file script shelf shelf' sink sink' journal (unread l j w e) = cc
+cut_cause row laws file script shelf shelf' sink sink' journal (refused bytes text l r j says) = (text, of_program bytes text l r, alone_lacks row sink sink' journal text j says)
+cut_cause row laws file script shelf shelf' sink sink' journal (unscripted bytes p mid l a m j w e) = cc
+cut_cause row laws file script shelf shelf' sink sink' journal (ran bytes p mid lines l a m run un) = script_cause row laws file script bytes lines p shelf mid shelf' sink sink' journal l a m run
+cut_cause row laws file script shelf shelf' sink sink' journal (ran_out l j w e) = cc
 
-cut_does : RowLaws → (u : Usage) (shelf shelf' : Option ShelfTold) (sink sink' : Option SinkTold) (journal : List Entry) → Does u shelf shelf' sink sink' journal (Err Cut) → RoomCause u shelf shelf' sink sink' journal
-cut_does row (Replay file script) shelf shelf' sink sink' journal h = cut_cause row (string_bytes file) (string_bytes script) shelf shelf' sink sink' journal h
-cut_does row (Check file) shelf shelf' sink sink' journal h = alone_lacks row sink sink' journal usage_text h.noted h.says
-cut_does row (Erase file script) shelf shelf' sink sink' journal h = alone_lacks row sink sink' journal usage_text h.noted h.says
-cut_does row (Load calls) shelf shelf' sink sink' journal h = alone_lacks row sink sink' journal usage_text h.noted h.says
-cut_does row (Run words) shelf shelf' sink sink' journal h = alone_lacks row sink sink' journal usage_text h.noted h.says
+cut_does : RowLaws → ((p : Program) → FollowingLaws p) → (u : Usage) (shelf shelf' : Option ShelfTold) (sink sink' : Option SinkTold) (journal : List Entry) → Does u shelf shelf' sink sink' journal (Err Cut) → RoomCause u shelf shelf' sink sink' journal
+cut_does row laws (Replay file script) shelf shelf' sink sink' journal h = cut_cause row laws (string_bytes file) (string_bytes script) shelf shelf' sink sink' journal h
+cut_does row laws (Check file) shelf shelf' sink sink' journal h = alone_lacks row sink sink' journal usage_text h.noted h.says
+cut_does row laws (Erase file script) shelf shelf' sink sink' journal h = alone_lacks row sink sink' journal usage_text h.noted h.says
+cut_does row laws (Load calls) shelf shelf' sink sink' journal h = alone_lacks row sink sink' journal usage_text h.noted h.says
+cut_does row laws (Run words) shelf shelf' sink sink' journal h = alone_lacks row sink sink' journal usage_text h.noted h.says
 
 -- where the sink's count rose, its room lacked
-pub room_cause : RowLaws → (u : Usage) (shelf shelf' : Option ShelfTold) (sink sink' : Option SinkTold) (journal : List Entry) (a a' b b' : ℕ) (end : Result ℕ Stop) → Does u shelf shelf' sink sink' journal end → CountsFaults a a' b b' end → b < b' → RoomCause u shelf shelf' sink sink' journal
-room_cause row u shelf shelf' sink sink' journal a a' b b' (Ok s) does h l = absurd (omega (arith, h.1, l))
-room_cause row u shelf shelf' sink sink' journal a a' b b' (Err Unread) does h l = absurd (omega (arith, h.1, l))
-room_cause row u shelf shelf' sink sink' journal a a' b b' (Err Cut) does h l = cut_does row u shelf shelf' sink sink' journal does
-room_cause row u shelf shelf' sink sink' journal a a' b b' (Err Memory) does h l = absurd (omega (arith, h.1, l))
+pub room_cause : RowLaws → ((p : Program) → FollowingLaws p) → (u : Usage) (shelf shelf' : Option ShelfTold) (sink sink' : Option SinkTold) (journal : List Entry) (a a' b b' : ℕ) (end : Result ℕ Stop) → Does u shelf shelf' sink sink' journal end → CountsFaults a a' b b' end → b < b' → RoomCause u shelf shelf' sink sink' journal
+room_cause row laws u shelf shelf' sink sink' journal a a' b b' (Ok s) does h l = absurd (omega (arith, h.1, l))
+room_cause row laws u shelf shelf' sink sink' journal a a' b b' (Err Unread) does h l = absurd (omega (arith, h.1, l))
+room_cause row laws u shelf shelf' sink sink' journal a a' b b' (Err Cut) does h l = cut_does row laws u shelf shelf' sink sink' journal does
+room_cause row laws u shelf shelf' sink sink' journal a a' b b' (Err Memory) does h l = absurd (omega (arith, h.1, l))
 
 -- the same where the usage text was to be written and nothing else
 pub usage_cause : RowLaws → (sink sink' : Option SinkTold) (journal : List Entry) (b b' : ℕ) (end : Result ℕ Stop) → Says usage_text 1 sink sink' end → CountsPuts b b' end → journal ≡ [] → b < b' → RoomLacks sink sink' journal usage_text

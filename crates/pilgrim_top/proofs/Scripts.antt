@@ -10,7 +10,7 @@ use Rattle.world_types.specs.declared.event.Event.TheVariants.{Turn, Tick}
 use Rattle.world_types.specs.declared.event.Told.{Told}
 use Rattle.world_types.specs.declared.effects.Entry.{Entry}
 use Rattle.world_rules.specs.Laws.{FollowingLaws}
-use Rattle.world_rules.specs.Legal.{first_failing, told, tolds}
+use Rattle.world_rules.specs.Legal.{ArePlain, IsPlainEvent, first_failing, reached, settled_by, told, tolds}
 use Rattle.world_rules.specs.Node.{first_of_program, rules_of}
 use Rattle.world_rules.specs.Transcript.{transcript}
 use Rattle.journal_text.specs.Grammar.{InGrammar, IsEvent, most_lines}
@@ -19,7 +19,7 @@ use Rattle.outside_edge.specs.Laws.{RowLaws}
 use Rattle.outside_edge.specs.Sink.{SinkTold, Wrote, Began}
 use Rattle.debug_world.specs.Seen.{Adds, MayBeApplied, Refuses, Seen}
 use Rattle.pilgrim_top.specs.Ends.{Says}
-use Rattle.pilgrim_top.specs.Script.{Applied, AppliesLine, Gained, IsRefused, can_run, illegal, RanOut, RunsScript, entry_text, refusal_text}
+use Rattle.pilgrim_top.specs.Script.{Applied, AppliesLine, Gained, IsRefused, can_run, illegal, in_entry, in_text, RanOut, RunsScript, entry_text, refusal_text}
 use Rattle.pilgrim_top.specs.declared.stop.Stop.{Stop}
 use Rattle.pilgrim_top.specs.declared.stop.Stop.TheVariants.{Unread, Cut, Memory}
 
@@ -39,9 +39,11 @@ applied_none program script journal empty = rw empty (record {
   lines = [];
   whole = refl;
   grammar = λ k d l. absurd (omega (arith, l));
+  runs = λ k d l. absurd (omega (arith, l));
   counted = refl;
   few = omega arith;
   legal = tt;
+  plain = tt;
   events = tt;
 })
 
@@ -49,27 +51,35 @@ spelled-more : (lines : List Told) (line : Told) → flat_map spelled (lines ++ 
 spelled-more [] line = append-nil (spelled line)
 spelled-more (x ∷ lines) line = ap (λ (t : List ℕ). spelled x ++ t) (spelled-more lines line) ∙ sym (append_assoc (spelled x) (flat_map spelled lines) (spelled line))
 
-pub transcript-more : (journal : List Entry) (e : Entry) → transcript (journal ++ e ∷ []) ≡ transcript journal ++ entry_text e
-transcript-more [] e = append-nil (entry_text e)
-transcript-more (x ∷ journal) e = ap (λ (t : List ℕ). entry_text x ++ t) (transcript-more journal e) ∙ sym (append_assoc (entry_text x) (transcript journal) (entry_text e))
-
 tolds-more : (journal : List Entry) (e : Entry) → tolds (journal ++ e ∷ []) ≡ tolds journal ++ told e ∷ []
 tolds-more [] e = refl
 tolds-more (x ∷ journal) e = ap (λ (t : List Told). told x ∷ t) (tolds-more journal e)
+
+plain-more : (journal : List Entry) (e : Entry) → ArePlain (tolds journal) → IsPlainEvent e.event → ArePlain (tolds (journal ++ e ∷ []))
+plain-more [] e h is = (is, tt)
+plain-more (x ∷ journal) e h is = (h.0, plain-more journal e h.1 is)
+
+-- the most steps of an event that can be run make no other event
+settled_plain : (program : Program) (list : List Told) (event : Event) → can_run event ≡ true → IsPlainEvent (settled_by (rules_of program) (reached (rules_of program) (first_of_program program) (reverse list)) (reverse list) event)
+settled_plain program list (Turn node steps reading) can = tt
+settled_plain program list (Tick node) can = tt
+settled_plain program list event can = cc
 
 -- the world of a journal
 abbrev pub world_of : Program → List Entry → Seen
 world_of program journal = record { program = program; list = tolds journal; spent = false }
 
 pub applied_more : (program : Program) (laws : FollowingLaws program) (script : List ℕ) (journal : List Entry) (rest more : List ℕ) (count : ℕ) (line : Told) (e : Entry) (world : Seen) → Applied program script journal rest count →
-    rest ≡ spelled line ++ more → InGrammar line → count < most_lines → Adds (world_of program journal) world line e → Applied program script (journal ++ e ∷ []) more (count + 1)
-applied_more program laws script journal rest more count line e world a parts grammar few adds = record {
+    rest ≡ spelled line ++ more → InGrammar line → can_run line.event ≡ true → count < most_lines → Adds (world_of program journal) world line e → Applied program script (journal ++ e ∷ []) more (count + 1)
+applied_more program laws script journal rest more count line e world a parts grammar can few adds = record {
   lines = a.lines ++ line ∷ [];
   whole = a.whole ∙ ap (λ (t : List ℕ). flat_map spelled a.lines ++ t) parts ∙ sym (append_assoc (flat_map spelled a.lines) (spelled line) more) ∙ ap (λ (t : List ℕ). t ++ more) (sym (spelled-more a.lines line));
   grammar = All-push InGrammar a.lines line a.grammar grammar;
+  runs = All-push (λ (l : Told). can_run l.event ≡ true) a.lines line a.runs can;
   counted = omega (arith, length-append a.lines (line ∷ []), a.counted);
   few = omega arith;
   legal = laws.legal journal e a.legal adds.follows;
+  plain = plain-more journal e a.plain (subst (λ (t : Told). IsPlainEvent t.event) (sym adds.most) (settled_plain program (tolds journal) line.event can));
   events = rw (reverse-append a.lines (line ∷ []), reverse-append journal (e ∷ [])) (rw (laws.past journal) adds.most, a.events);
 }
 
@@ -102,7 +112,7 @@ ends_refused row program script rest journal count sink mid sink' (Err Cut) a wr
   rest = rest;
   count = count;
   applied = a;
-  wrote = inr (6, refusal_text count, inr (why, refl, refl), row.cut sink mid sink' (transcript journal) (refusal_text count) wrote says);
+  cut = in_text 6 (refusal_text count) mid (inr (why, refl, refl)) wrote says;
 }
 ends_refused row program script rest journal count sink mid sink' (Err Memory) a wrote why says = record {
   rest = rest;
@@ -133,13 +143,14 @@ pub record Line (program : Program) (script rest more : List ℕ) (count : ℕ) 
   pub applied : Applied program script journal rest count
   pub parts : rest ≡ spelled line ++ more
   pub grammar : InGrammar line
+  pub can : can_run line.event ≡ true
   pub few : count < most_lines
   pub is : world ≡ world_of program journal
 
 gained : (program : Program) (laws : FollowingLaws program) (script rest more : List ℕ) (count : ℕ) (journal journal' : List Entry) (line : Told) (world world' : Seen) → Line program script rest more count journal line world → (g : Gained world world' journal journal' line) →
     Applied program script journal' more (count + 1)
 gained program laws script rest more count journal journal' line world world' l g =
-    rw (g.longer) (applied_more program laws script journal rest more count line g.entry world' l.applied l.parts l.grammar l.few (subst (λ (w : Seen). Adds w world' line g.entry) l.is g.adds))
+    rw (g.longer) (applied_more program laws script journal rest more count line g.entry world' l.applied l.parts l.grammar l.can l.few (subst (λ (w : Seen). Adds w world' line g.entry) l.is g.adds))
 
 -- the line is refused
 pub refused_line : (program : Program) (script rest more : List ℕ) (count : ℕ) (journal : List Entry) (line : Told) (world world' : Seen) (number : ℕ) → Line program script rest more count journal line world →
@@ -151,20 +162,18 @@ refused_line program script rest more count journal line world world' number l r
 pub ends_at : RowLaws → (program : Program) (laws : FollowingLaws program) (script rest more : List ℕ) (count : ℕ) (journal journal' : List Entry) (line : Told) (world world' : Seen) (sink mid sink' : Option SinkTold) (stop : Stop) → Line program script rest more count journal line world →
     Wrote sink mid (transcript journal) → AppliesLine world world' journal journal' mid sink' line (Err stop) → RunsScript program script sink sink' journal' (Err stop)
 ends_at row program laws script rest more count journal journal' line world world' sink mid sink' Unread l wrote h = h
-ends_at row program laws script rest more count journal journal' line world world' sink mid sink' Cut l wrote h =
-    let longer : transcript journal' ≡ transcript journal ++ entry_text h.0.entry = rw (h.0.longer) (transcript-more journal h.0.entry) in
-    record {
-      rest = more;
-      count = count + 1;
-      applied = gained program laws script rest more count journal journal' line world world' l h.0;
-      wrote = inl (rw longer (row.cut sink mid sink' (transcript journal) (entry_text h.0.entry) wrote h.1));
-    }
+ends_at row program laws script rest more count journal journal' line world world' sink mid sink' Cut l wrote h = record {
+  rest = more;
+  count = count + 1;
+  applied = gained program laws script rest more count journal journal' line world world' l h.0;
+  cut = in_entry journal h.0.entry mid h.0.longer wrote h.1;
+}
 ends_at row program laws script rest more count journal journal' line world world' sink mid sink' Memory l wrote h = by_which h.0
   where
     by_which : (journal' ≡ journal) ⊎ Gained world world' journal journal' line → RanOut program script sink sink' journal'
     by_which (inl same) = rw same (record { rest = rest; count = count; applied = l.applied; wrote = began_only row sink mid sink' (transcript journal) wrote h.1 })
     by_which (inr g) =
-        let longer : transcript journal' ≡ transcript journal ++ entry_text g.entry = rw (g.longer) (transcript-more journal g.entry) in
+        let longer : transcript journal' ≡ transcript journal ++ entry_text g.entry = rw (g.longer) (laws.written journal g.entry) in
         record {
           rest = more;
           count = count + 1;
@@ -181,7 +190,7 @@ pub record On (program : Program) (script more : List ℕ) (count : ℕ) (journa
 pub goes_on : RowLaws → (program : Program) (laws : FollowingLaws program) (script rest more : List ℕ) (count : ℕ) (journal journal' : List Entry) (line : Told) (world world' : Seen) (sink mid sink' : Option SinkTold) → Line program script rest more count journal line world →
     Wrote sink mid (transcript journal) → AppliesLine world world' journal journal' mid sink' line (Ok true) → On program script more count journal' world' sink sink'
 goes_on row program laws script rest more count journal journal' line world world' sink mid sink' l wrote h =
-    let longer : transcript journal' ≡ transcript journal ++ entry_text h.0.entry = rw (h.0.longer) (transcript-more journal h.0.entry) in
+    let longer : transcript journal' ≡ transcript journal ++ entry_text h.0.entry = rw (h.0.longer) (laws.written journal h.0.entry) in
     record {
       applied = gained program laws script rest more count journal journal' line world world' l h.0;
       wrote = rw longer (row.whole sink mid sink' (transcript journal) (entry_text h.0.entry) wrote h.1);

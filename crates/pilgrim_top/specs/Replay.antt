@@ -3,6 +3,7 @@ use Rattle.std.specs.Prelude.{◌≡◌, ◌<◌, ◌≤◌, ℕ, List, [], ◌�
 use Rattle.clu_tree.specs.Typed.{IsAccepted}
 use Rattle.clu_tree.specs.declared.program.Program.{Program}
 use Rattle.world_types.specs.declared.effects.Entry.{Entry}
+use Rattle.world_rules.specs.Laws.{RunsPlainly}
 use Rattle.world_rules.specs.Legal.{ErasesLegally, SameEffects}
 use Rattle.world_rules.specs.Node.{first_of_program, rules_of}
 use Rattle.outside_edge.specs.Shelf.{ShelfTold, Loads}
@@ -31,6 +32,8 @@ pub data IsRefusedProgram (bytes : List ℕ) : List ℕ → Type 0 where
 pub record Unnoticed (program : Program) (journal : List Entry) : Type 0 where
   pub same : SameEffects (rules_of program) (first_of_program program) journal
   pub erased : ErasesLegally (rules_of program) (first_of_program program) journal
+  -- so far a script has turns and ticks alone, so the machine without debugger runs the journal as it stands
+  pub plainly : RunsPlainly program journal
 
 -- what was loaded where memory ran out before the script was run
 pub data LoadsSome (file script : List ℕ) (shelf shelf' : Option ShelfTold) : Type 0 where

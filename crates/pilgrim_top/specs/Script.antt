@@ -7,7 +7,7 @@ use Rattle.world_types.specs.declared.event.Event.TheVariants.{Turn, Tick}
 use Rattle.world_types.specs.declared.event.Told.{Told}
 use Rattle.world_types.specs.declared.effects.Entry.{Entry}
 use Rattle.world_rules.specs.Laws.{past_of}
-use Rattle.world_rules.specs.Legal.{first_failing, settled, told, tolds}
+use Rattle.world_rules.specs.Legal.{ArePlain, first_failing, settled, told, tolds}
 use Rattle.world_rules.specs.Node.{IsLegal, first_of_program, rules_of}
 use Rattle.world_rules.specs.Transcript.{transcript, written_by}
 use Rattle.journal_text.specs.Grammar.{BeginsWithNoLine, InGrammar, most_lines}
@@ -17,6 +17,12 @@ use Rattle.debug_world.specs.Seen.{Adds, Refuses, Seen}
 use Rattle.pilgrim_top.specs.declared.stop.Stop.{Stop}
 use Rattle.pilgrim_top.specs.declared.stop.Stop.TheVariants.{Unread, Cut, Memory}
 
+-- the events that a script can have so far
+abbrev pub can_run : Event → Bool
+can_run (Turn node steps reading) = true
+can_run (Tick node) = true
+can_run event = false
+
 -- each entry, the newest first, is its line's, a Turn with the greatest number of steps up to the line's
 abbrev pub AreLines : Program → List Told → List Entry → Type 0
 AreLines program [] [] = Unit {0}
@@ -25,22 +31,18 @@ AreLines program (line ∷ lines) [] = ⊥
 AreLines program (line ∷ lines) (e ∷ past) =
     (told e ≡ settled (rules_of program) (first_of_program program) (tolds past) line) × AreLines program lines past
 
--- The first lines of the script, so many, were applied, and this rest of it wasn't: the journal is legal, and its
--- events are those lines in order.
+-- The first lines of the script, so many, were applied, and this rest of it wasn't: they are lines that can be run, the
+-- journal is legal, and its events are those lines in order.
 pub record Applied (program : Program) (script : List ℕ) (journal : List Entry) (rest : List ℕ) (count : ℕ) : Type 0 where
   pub lines : List Told
   pub whole : script ≡ flat_map spelled lines ++ rest
   pub grammar : All InGrammar lines
+  pub runs : All (λ line. can_run line.event ≡ true) lines
   pub counted : length lines ≡ count
   pub few : count ≤ most_lines
   pub legal : IsLegal program journal
+  pub plain : ArePlain (tolds journal)
   pub events : AreLines program (reverse lines) (reverse journal)
-
--- the events that a script can have so far
-abbrev pub can_run : Event → Bool
-can_run (Turn node steps reading) = true
-can_run (Tick node) = true
-can_run event = false
 
 -- why the line at the front of the rest is refused
 pub data IsRefused (program : Program) (journal : List Entry) (rest : List ℕ) (count : ℕ) : Type 0 where
@@ -74,13 +76,23 @@ pub record Ended (program : Program) (script : List ℕ) (sink sink' : Option Si
   pub ends : Finishes program journal rest count status text
   pub wrote : Wrote sink sink' (transcript journal ++ text)
 
--- the writing was cut short: in the transcript of the journal, or in the text of the status
+-- what is written for an entry
+abbrev pub entry_text : Entry → List ℕ
+entry_text e = written_by e.event e.effects
+
+-- where the writing was cut short: in the last entry, or in the text of the status; all before it was written
+pub data CutIn (program : Program) (sink sink' : Option SinkTold) (journal : List Entry) (rest : List ℕ) (count : ℕ) : Type 0 where
+  in_entry : (before : List Entry) (e : Entry) (mid : Option SinkTold) → journal ≡ before ++ e ∷ [] → Wrote sink mid (transcript before) → CutShort mid sink' (entry_text e) →
+      CutIn program sink sink' journal rest count
+  in_text : (status : ℕ) (text : List ℕ) (mid : Option SinkTold) → Finishes program journal rest count status text → Wrote sink mid (transcript journal) → CutShort mid sink' text →
+      CutIn program sink sink' journal rest count
+
+-- the writing was cut short
 pub record WasCut (program : Program) (script : List ℕ) (sink sink' : Option SinkTold) (journal : List Entry) : Type 0 where
   pub rest : List ℕ
   pub count : ℕ
   pub applied : Applied program script journal rest count
-  pub wrote : CutShort sink sink' (transcript journal)
-      ⊎ ((status : ℕ) × (text : List ℕ) × Finishes program journal rest count status text × CutShort sink sink' (transcript journal ++ text))
+  pub cut : CutIn program sink sink' journal rest count
 
 -- memory ran out, and a beginning of the transcript was written
 pub record RanOut (program : Program) (script : List ℕ) (sink sink' : Option SinkTold) (journal : List Entry) : Type 0 where
@@ -103,9 +115,6 @@ pub record Gained (world world' : Seen) (journal journal' : List Entry) (line : 
   pub entry : Entry
   pub adds : Adds world world' line entry
   pub longer : journal' ≡ journal ++ entry ∷ []
-
-abbrev pub entry_text : Entry → List ℕ
-entry_text e = written_by e.event e.effects
 
 -- what applying a line does: it is applied and written, or refused, or the writing is cut short, or memory runs out
 -- with the entry in the journal or not

@@ -9,7 +9,7 @@ use crate::stop::{Stop, say};
 use clu_reader::{AcceptFault, accept};
 use outside_edge::{LoadFault, Shelf, Sink, puts_in_a_row};
 use std::alloc::Global;
-use world_rules::erasing_laws;
+use world_rules::{erasing_laws, plain_law};
 use world_types::Entry;
 
 /// A program has at most this many bytes, 1 MiB.
@@ -60,5 +60,6 @@ pub fn replay<S: Shelf, K: Sink>(
         Err(LoadFault::Memory) => return Err(Stop::Memory),
     };
     erasing_laws();
+    plain_law();
     run_script(alloc, &program, lines.as_slice(), sink, journal)
 }

@@ -163,6 +163,14 @@ fn scripts_run_up_to_the_first_line_refused(rt: HostRuntime) -> Result<(), Fail>
             "1: hi\nscript refused at line 2\n",
             [4].as_slice(),
         ),
+        // A line of the format whose event can't be run yet.
+        (
+            HELLO,
+            "0 haltall\n",
+            6,
+            "script refused at line 1\n",
+            [].as_slice(),
+        ),
         (
             HELLO,
             "0 turn 1 64 0\n0 halt 1\n",

@@ -12,6 +12,7 @@ use crate::stop::{Stop, say};
 use crate::usage::{Usage, UsageFault, usage_of};
 use outside_edge::{Shelf, Sink, puts_in_a_row};
 use std::alloc::Global;
+use world_rules::following_laws;
 use world_types::Entry;
 
 /// What a run leaves: its status, and the journal.
@@ -87,6 +88,7 @@ pub fn top_still<S: Shelf, K: Sink>(
     // The journal is legal, its events are the script's lines, and the debugger can't be noticed.
     ensures does { (end : Result ℕ Stop) × (result.status ≡ status_of end) × Does usage.now (S.told shelf.old) (S.told shelf.new) (K.told sink.old) (K.told sink.new) result.journal.items end }
 {
+    following_laws();
     puts_in_a_row();
     let mut journal = Vec::new(alloc);
     let end = run(alloc, usage, shelf, sink, &mut journal);

@@ -13,6 +13,7 @@ use Rattle.world_rules.proofs.Cuts.{rounds_ordered}
 use Rattle.world_rules.proofs.Erasing.{cut-later, erase-plain, plain_erased, snoc}
 use Rattle.world_rules.proofs.Following.{in_time, in_time_more, same_effects, tolds-reverse}
 use Rattle.world_rules.proofs.Lawfully.{lawful}
+use Rattle.world_rules.proofs.Lines.{transcript-more}
 use Rattle.world_rules.proofs.Plainly.{erases_legally}
 
 -- a legal list is in time
@@ -38,5 +39,6 @@ erasing_laws program = record {
 pub following_laws : (program : Program) → FollowingLaws program
 following_laws program = record {
   past = tolds-reverse;
+  written = transcript-more;
   legal = λ list e h follows. rw (reverse-append list (e ∷ [])) (h, rw (tolds-reverse list) follows);
 }

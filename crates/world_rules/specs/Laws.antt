@@ -1,11 +1,14 @@
 -- The laws of what a list says, over every program.
-use Rattle.std.specs.Prelude.{◌≡◌, ℕ, ◌≤◌, List, [], ◌∷◌, ◌++◌, reverse, None}
+use Rattle.std.specs.Prelude.{◌≡◌, ℕ, ◌≤◌, List, [], ◌∷◌, ◌++◌, reverse, Some, None}
 use Rattle.clu_tree.specs.declared.program.Program.{Program}
 use Rattle.world_types.specs.declared.event.Told.{Told}
 use Rattle.world_types.specs.declared.effects.Entry.{Entry}
-use Rattle.world_rules.specs.Said.{rounds, cut, erase, items}
+use Rattle.world_types.specs.declared.effects.Effects.{Effects}
+use Rattle.world_rules.specs.Plain.{World, plain}
+use Rattle.world_rules.specs.Said.{rounds, cut, erase, items, plain_events}
 use Rattle.world_rules.specs.Legal.{ArePlain, ErasesLegally, Follows, SameEffects, first_failing, tolds}
-use Rattle.world_rules.specs.Node.{IsLegal, first_of_program, rules_of}
+use Rattle.world_rules.specs.Node.{IsLegal, NodeState, first_of_program, rules_of}
+use Rattle.world_rules.specs.Transcript.{printed, transcript, written_by}
 
 -- the events of the entries, the newest first
 abbrev pub past_of : List Entry → List Told
@@ -26,8 +29,22 @@ pub record ErasingLaws (program : Program) : Type 0 where
   pub legal : (list : List Entry) → IsLegal program list → ErasesLegally (rules_of program) (first_of_program program) list
   pub again : (list : List Told) → erase (erase list) ≡ erase list
 
--- Of one more entry: the events of a list that is read from its end are its past; and a legal list that an entry follows
+-- Of one more entry: the events of a list that is read from its end are its past; what is written for the entry comes
+-- behind what is written for the list; and a legal list that an entry follows
 -- is legal with that entry.
 pub record FollowingLaws (program : Program) : Type 0 where
   pub past : (list : List Entry) → tolds (reverse list) ≡ past_of list
+  pub written : (list : List Entry) (e : Entry) → transcript (list ++ e ∷ []) ≡ transcript list ++ written_by e.event e.effects
   pub legal : (list : List Entry) (e : Entry) → IsLegal program list → Follows (rules_of program) (first_of_program program) (past_of list) e → IsLegal program (list ++ e ∷ [])
+
+-- The machine without debugger runs the events of the list as they stand, and what is written for the list are that
+-- machine's lines.
+pub record RunsPlainly (program : Program) (list : List Entry) : Type 0 where
+  pub last : World NodeState
+  pub most : Effects
+  pub ran : plain (rules_of program) (first_of_program program) (plain_events (tolds list)) ≡ Some (last, most)
+  pub written : transcript list ≡ printed most.lines
+
+-- Of turns, packets and ticks alone: a legal list of them is run as it stands.
+abbrev pub PlainLaw : Program → Type 0
+PlainLaw program = (list : List Entry) → IsLegal program list → ArePlain (tolds list) → RunsPlainly program list

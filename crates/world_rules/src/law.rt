@@ -7,7 +7,7 @@ ghost use Rattle.world_types.specs.declared.event.Event.TheVariants.{Resume};
 ghost use Rattle.world_rules.specs.Said.{Round, cut, read_by, rounds};
 ghost use Rattle.world_rules.specs.Clock.{ClosedBy, Knows, Lacks, Ordered, clock_reads, opening, total};
 ghost use Rattle.world_rules.specs.Legal.{first_failing, reached};
-ghost use Rattle.world_rules.specs.Laws.{CutLaws, ErasingLaws, FollowingLaws};
+ghost use Rattle.world_rules.specs.Laws.{CutLaws, ErasingLaws, FollowingLaws, PlainLaw};
 ghost use Rattle.world_rules.specs.Node.{first_of_program, rules_of};
 
 /// The laws of the list without the debugger.
@@ -18,6 +18,11 @@ pub fn erasing_laws()
 /// The laws of a list with one more entry.
 pub fn following_laws()
     ensures { (program : Program) → FollowingLaws program }
+{}
+
+/// A list of turns, packets and ticks alone is run by the machine without debugger as it stands.
+pub fn plain_law()
+    ensures { (program : Program) → PlainLaw program }
 {}
 
 /// The laws of logical time.

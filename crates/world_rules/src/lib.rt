@@ -3,4 +3,6 @@
 
 mod law;
 
-pub use law::{clock_law, cut_laws, erasing_laws, following_laws, knowing_law, lagging_clock_law};
+pub use law::{
+    clock_law, cut_laws, erasing_laws, following_laws, knowing_law, lagging_clock_law, plain_law,
+};

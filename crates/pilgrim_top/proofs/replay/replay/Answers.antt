@@ -41,4 +41,4 @@ returns-clause-replays g c =
     let runs : RunsScript c.in-Ok-accept.program c.in-Ok-load.lines.items (g.K.Sink.told c.args.sink.now) (g.K.Sink.told c.run_script.new.sink) c.run_script.new.journal.items c.run_script.result =
     rw c.as_slice-2.ensures.value at c.run_script.ensures.runs in
     ran c.in-Ok.text.items c.in-Ok-accept.program _ c.in-Ok-load.lines.items c.in-Ok.ensures.told (rw c.as_slice.ensures.value at c.in-Ok-accept.ensures.ok) c.in-Ok-load.ensures.told
-    runs (unnoticed _ _ _ _ _ c.run_script.result c.erasing_laws.ensures runs)
+    runs (unnoticed _ _ _ _ _ c.run_script.result c.erasing_laws.ensures c.plain_law.ensures runs)

@@ -30,7 +30,7 @@ pub returns-in-Ok-false-clause-runs : goal.returns-in-Ok-false-clause-runs
 returns-in-Ok-false-clause-runs g c =
     let i = c.loop-rest.invariant in
     let line : Line c.args.program.now c.args.script.now c.loop-rest.rest.now c.in-Ok-first_line.line.rest.now c.loop-rest.count c.loop-rest.journal.items c.in-Ok-first_line.line.told c.loop-rest.world =
-    record { applied = i.applied; parts = c.in-Ok-first_line.ensures.parts; grammar = c.in-Ok-first_line.ensures.grammar; few = few_of _ i.applied.few c.if-count-eq-MOST_LINES.false; is = i.world } in
+    record { applied = i.applied; parts = c.in-Ok-first_line.ensures.parts; grammar = c.in-Ok-first_line.ensures.grammar; can = sym c.can_run.ensures ∙ c.if-not-can_run.false; few = few_of _ i.applied.few c.if-count-eq-MOST_LINES.false; is = i.world } in
     let applies = rw c.in-Ok-false.field-0-test at c.in-Ok-false.ensures.applies in
     rw (applies.2) (ends_refused c.puts_in_a_row.ensures _ _ _ _ _ _ _ _ _ i.applied i.wrote (refused_line _ _ _ _ _ _ _ _ _ applies.0 line applies.1) (rw (applies.3) at c.refuse-in-Ok-false.ensures.says))
 
@@ -38,14 +38,14 @@ pub returns-in-Err-clause-runs : goal.returns-in-Err-clause-runs
 returns-in-Err-clause-runs g c =
     let i = c.loop-rest.invariant in
     let line : Line c.args.program.now c.args.script.now c.loop-rest.rest.now c.in-Ok-first_line.line.rest.now c.loop-rest.count c.loop-rest.journal.items c.in-Ok-first_line.line.told c.loop-rest.world =
-    record { applied = i.applied; parts = c.in-Ok-first_line.ensures.parts; grammar = c.in-Ok-first_line.ensures.grammar; few = few_of _ i.applied.few c.if-count-eq-MOST_LINES.false; is = i.world } in
+    record { applied = i.applied; parts = c.in-Ok-first_line.ensures.parts; grammar = c.in-Ok-first_line.ensures.grammar; can = sym c.can_run.ensures ∙ c.if-not-can_run.false; few = few_of _ i.applied.few c.if-count-eq-MOST_LINES.false; is = i.world } in
     ends_at c.puts_in_a_row.ensures _ (c.following_laws.ensures _) _ _ _ _ _ _ _ _ _ _ _ _ c.in-Err.stop line i.wrote c.in-Err.ensures.applies
 
 pub loop-rest-preserved : goal.loop-rest-preserved
 loop-rest-preserved g c =
     let i = c.loop-rest.invariant in
     let line : Line c.args.program.now c.args.script.now c.loop-rest.rest.now c.in-Ok-first_line.line.rest.now c.loop-rest.count c.loop-rest.journal.items c.in-Ok-first_line.line.told c.loop-rest.world =
-    record { applied = i.applied; parts = c.in-Ok-first_line.ensures.parts; grammar = c.in-Ok-first_line.ensures.grammar; few = few_of _ i.applied.few c.if-count-eq-MOST_LINES.false; is = i.world } in
+    record { applied = i.applied; parts = c.in-Ok-first_line.ensures.parts; grammar = c.in-Ok-first_line.ensures.grammar; can = sym c.can_run.ensures ∙ c.if-not-can_run.false; few = few_of _ i.applied.few c.if-count-eq-MOST_LINES.false; is = i.world } in
     let applies = rw c.in-Ok-true.field-0-test at c.in-Ok-true.ensures.applies in
     let on = goes_on c.puts_in_a_row.ensures _ (c.following_laws.ensures _) _ _ _ _ _ _ _ _ _ _ _ _ line i.wrote applies in
     record { applied = on.applied; wrote = on.wrote; faults = c.in-Ok-true.ensures.counts ∙ i.faults; world = on.world }

@@ -8,4 +8,4 @@ pub returns-clause-load_cause : goal.returns-clause-load_cause
 returns-clause-load_cause g c = λ rose. load_cause c.args.usage.now _ _ _ _ _ _ _ _ _ c.run-end.result c.run-end.ensures.does c.run-end.ensures.counts rose
 
 pub returns-clause-room_cause : goal.returns-clause-room_cause
-returns-clause-room_cause g c = λ rose. room_cause c.puts_in_a_row.ensures c.args.usage.now _ _ _ _ _ _ _ _ _ c.run-end.result c.run-end.ensures.does c.run-end.ensures.counts rose
+returns-clause-room_cause g c = λ rose. room_cause c.puts_in_a_row.ensures c.following_laws.ensures c.args.usage.now _ _ _ _ _ _ _ _ _ c.run-end.result c.run-end.ensures.does c.run-end.ensures.counts rose
