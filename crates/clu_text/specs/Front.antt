@@ -1,5 +1,5 @@
 -- What stands at the front of the bytes, and what the private functions answer.
-use Rattle.std.specs.Prelude.{ℕ, ◌<◌, ◌≤◌, ◌≡◌, ◌+◌, Bool, ◌||◌, ◌&&◌, ◌==◌, List, length, take, Option, Some, None, Result, Ok, Err, codes, if◌then◌else◌, false}
+use Rattle.std.specs.Prelude.{ℕ, ◌<◌, ◌≤◌, ◌≡◌, ◌≢◌, ◌+◌, Bool, ◌||◌, ◌&&◌, ◌==◌, List, [], ◌∷◌, length, take, Option, Some, None, Result, Ok, Err, codes, if◌then◌else◌, false}
 use Rattle.std.specs.List.{list_any}
 use Rattle.clu_text.specs.declared.fault.TextFault.{TextFault}
 use Rattle.clu_text.specs.declared.fault.TextFault.TheVariants as fault
@@ -7,7 +7,7 @@ use Rattle.clu_text.specs.declared.front.Spelling.{Spelling}
 use Rattle.clu_text.specs.declared.token.Token.{Token}
 use Rattle.clu_text.specs.declared.token.TokenKind.{TokenKind}
 use Rattle.clu_text.specs.declared.quoted.Quoted.{Quoted}
-use Rattle.clu_text.specs.Spelling.{HasParts, IsSpelling, IsToken}
+use Rattle.clu_text.specs.Spelling.{HasParts, IsSpelling, IsToken, is_lower, is_digit}
 use Rattle.clu_text.specs.Tokens.{IsTokenAt, IsInRange, BeginsWide}
 
 -- the symbols of one byte
@@ -19,6 +19,19 @@ abbrev pub is_pair : ℕ → ℕ → Bool
 is_pair first second =
     if second == 61 then (first == 58 || first == 126 || first == 60 || first == 62) else
     (if second == 47 || second == 124 then first == second else false)
+
+-- the length of the longest symbol at the front, or 0
+unfoldable pub symbol_len : List ℕ → ℕ
+symbol_len [] = 0
+symbol_len (a ∷ []) = if is_single a then 1 else 0
+symbol_len (a ∷ b ∷ bytes) = if is_pair a b then 2 else (if is_single a then 1 else 0)
+
+-- neither a lower-case letter nor a digit nor a quote
+pub record BeginsOther (b : ℕ) : Type 0 where
+  pub no_word : is_lower b ≡ false
+  pub no_int : is_digit b ≡ false
+  pub no_char : b ≢ 39
+  pub no_string : b ≢ 34
 
 -- The bytes begin with so many parts and the quote that closes them.
 pub record Closes (quote : ℕ) (bytes : List ℕ) (q : Quoted) : Type 0 where

@@ -7,7 +7,7 @@ ghost use Rattle.clu_text.specs.Tokens as text;
 ghost use Rattle.clu_text.specs.Front as front;
 
 /// `a` to `z`.
-pub fn is_lower(b: u8) -> bool
+fn is_lower(b: u8) -> bool
     ensures { result ≡ spelling.is_lower b }
 {
     97 <= b && b <= 122

@@ -1,12 +1,13 @@
 //! The longest spelling at the front of the bytes.
 
-ghost use Rattle.std.specs.Prelude.{◌≡◌, ◌≢◌, ◌↔◌, ◌≤◌, ◌^◌, slice_index, IsTrue, Some, false, ◌∷◌};
+ghost use Rattle.std.specs.Prelude.{◌≡◌, ◌↔◌, ◌≤◌, ◌^◌, slice_index, IsTrue, Some, ◌∷◌};
 ghost use Rattle.std.specs.List.{prefix_len};
 ghost use Rattle.clu_text.specs.Spelling as spelled;
-ghost use Rattle.clu_text.specs.Front.{FrontAnswer};
+ghost use Rattle.clu_text.specs.Front.{FrontAnswer, BeginsOther};
+ghost use Rattle.clu_text.specs.Front as plan;
 
-use crate::byte::{is_digit, is_lower, is_pair, is_single, is_word_byte};
-use crate::quoted::{Quoted, find_parts};
+use crate::byte::{is_digit, is_pair, is_single, is_word_byte};
+use crate::quoted::find_parts;
 use crate::token::TokenKind;
 
 /// The most bytes that a word has.
@@ -64,41 +65,51 @@ fn int(bytes: &[u8]) -> Spelling
 fn char(bytes: &[u8]) -> Option<Spelling>
     ensures { FrontAnswer (39 ∷ bytes.now) result }
 {
-    match find_parts(bytes, b'\'') {
-        Some(Quoted { len, parts }) if parts == 1 => Some(Spelling {
-            kind: TokenKind::Char,
-            len: len + 1,
-        }),
-        _ => None,
+    let quoted = find_parts(bytes, b'\'')?;
+    if quoted.parts != 1 {
+        return None;
     }
+    Some(Spelling {
+        kind: TokenKind::Char,
+        len: quoted.len + 1,
+    })
 }
 
 /// The string whose first quote stands before these bytes, unless it is too long.
 fn string(bytes: &[u8]) -> Option<Spelling>
     ensures { FrontAnswer (34 ∷ bytes.now) result }
 {
-    match find_parts(bytes, b'"') {
-        Some(Quoted { len, parts }) if parts <= LONGEST_STRING => Some(Spelling {
-            kind: TokenKind::Str,
-            len: len + 1,
-        }),
-        _ => None,
+    let quoted = find_parts(bytes, b'"')?;
+    if quoted.parts > LONGEST_STRING {
+        return None;
+    }
+    Some(Spelling {
+        kind: TokenKind::Str,
+        len: quoted.len + 1,
+    })
+}
+
+/// The length of the longest symbol at the front, or 0.
+#[tactic(auto, unfolding(crate::specs::Front::symbol_len))]
+fn symbol_len(bytes: &[u8]) -> usize
+    ensures { result ≡ plan.symbol_len bytes.now }
+{
+    match bytes {
+        [first, second, ..] if is_pair(*first, *second) => 2,
+        [first, ..] if is_single(*first) => 1,
+        _ => 0,
     }
 }
 
-/// The symbol at the front.
+/// The symbol at the front, where neither a word nor a number nor a quote stands there.
 fn symbol(bytes: &[u8]) -> Option<Spelling>
-    requires lower { spelled.is_lower (slice_index bytes.now 0) ≡ false }
-    requires digit { spelled.is_digit (slice_index bytes.now 0) ≡ false }
-    requires quote { slice_index bytes.now 0 ≢ 39 }
-    requires double { slice_index bytes.now 0 ≢ 34 }
+    requires { BeginsOther (slice_index bytes.now 0) }
     ensures { FrontAnswer bytes.now result }
 {
-    let len = match bytes {
-        [first, second, ..] if is_pair(*first, *second) => 2,
-        [first, ..] if is_single(*first) => 1,
-        _ => return None,
-    };
+    let len = symbol_len(bytes);
+    if len == 0 {
+        return None;
+    }
     Some(Spelling {
         kind: TokenKind::Symbol,
         len,
@@ -109,12 +120,14 @@ fn symbol(bytes: &[u8]) -> Option<Spelling>
 pub fn front(bytes: &[u8]) -> Option<Spelling>
     ensures { FrontAnswer bytes.now result }
 {
-    match bytes {
-        [] => None,
-        [first, ..] if is_lower(*first) => word(bytes),
-        [first, ..] if is_digit(*first) => Some(int(bytes)),
-        [b'\'', rest @ ..] => char(rest),
-        [b'"', rest @ ..] => string(rest),
+    let [first, rest @ ..] = bytes else {
+        return None;
+    };
+    match *first {
+        b'a'..=b'z' => word(bytes),
+        b'0'..=b'9' => Some(int(bytes)),
+        b'\'' => char(rest),
+        b'"' => string(rest),
         _ => symbol(bytes),
     }
 }
