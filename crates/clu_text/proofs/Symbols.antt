@@ -23,7 +23,7 @@ is_shape (a ∷ b ∷ []) = begins_other a && is_pair a b
 is_shape (a ∷ b ∷ c ∷ bytes) = false
 
 symbol-shape : (w : List ℕ) → IsSymbol w → is_shape w ≡ true
-unfolding is_shape, begins_other
+unfolding is_shape begins_other
 symbol-shape w h = All-contains (λ v. is_shape v ≡ true) symbols w (AllPass-from_list_all is_shape symbols refl) h
 
 from_begins : (b : ℕ) → begins_other b ≡ true → BeginsOther b
