@@ -16,17 +16,17 @@ use Rattle.clu_text.proofs.Symbols.{Shape, one, two, shape, symbol_len-is, symbo
 
 -- ---- by the first byte
 
-symbol_first : (b : ℕ) (v : List ℕ) → IsSymbol (b ∷ v) → BeginsOther b
+pub symbol_first : (b : ℕ) (v : List ℕ) → IsSymbol (b ∷ v) → BeginsOther b
 symbol_first b v h = by_shape b v (shape (b ∷ v) h)
   where
     by_shape : (b : ℕ) (v : List ℕ) → Shape (b ∷ v) → BeginsOther b
     by_shape b _ (one p h) = p
     by_shape b _ (two p h) = p
 
-digit_isnt_lower : (b : ℕ) → is_digit b ≡ true → is_lower b ≡ false
+pub digit_isnt_lower : (b : ℕ) → is_digit b ≡ true → is_lower b ≡ false
 digit_isnt_lower b h = and_left (nat_le 97 b) (nat_le b 122) (lt-leb 97 b (omega (arith, leb-true b 57 (and_parts (nat_le 48 b) (nat_le b 57) h).1)))
 
-first_digit : (b : ℕ) (v : List ℕ) → IsInt (b ∷ v) → is_digit b ≡ true
+pub first_digit : (b : ℕ) (v : List ℕ) → IsInt (b ∷ v) → is_digit b ≡ true
 first_digit b v h = h.1 0 b (omega arith)
 
 spelled-lower : (b : ℕ) (v : List ℕ) → is_lower b ≡ true → IsSpelling (b ∷ v) → IsWord (b ∷ v)

@@ -2,3 +2,5 @@ pub mod Numbers
 pub mod Parts
 pub mod Symbols
 pub mod Fronts
+pub mod Bytes
+pub mod Places

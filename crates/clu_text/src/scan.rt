@@ -1,6 +1,7 @@
 //! The tokens of a text.
 
-ghost use Rattle.std.specs.Prelude.{◌≡◌, ◌⊎◌, ◌<◌, ◌≤◌, ℕ, length, slice_index, IfOk, OnOk, IsOkUnless, IsErrAnd, Result};
+ghost use Rattle.std.specs.Prelude.{◌≡◌, ◌⊎◌, ◌<◌, ◌≤◌, ℕ, length, slice_index, IfOk, OnOk, IsOkUnless, IsErrAnd, not, ◌==◌};
+ghost use Rattle.std.specs.List.{prefix_len};
 ghost use Rattle.clu_text.specs.Tokens.{line_at, IsComment, HasTokens, IsBadByte, IsWide, HasNoFault};
 ghost use Rattle.clu_text.specs.Front.{TokenAnswer};
 
@@ -10,6 +11,13 @@ use crate::front::{front, is_wide};
 use crate::token::{Token, TokenKind};
 use std::alloc::Global;
 
+/// How many bytes there are before the next end of a line, or in all.
+fn line_len(bytes: &[u8]) -> usize
+    ensures { result ≡ prefix_len (λ b. not (b == 10)) bytes.now }
+{
+    bytes.iter().take_while(|b| **b != b'\n').count()
+}
+
 /// The place behind the comment that begins at a place.
 fn comment_end(text: &[u8], at: usize) -> usize
     requires within { at < length text.now }
@@ -17,7 +25,7 @@ fn comment_end(text: &[u8], at: usize) -> usize
     ensures { IsComment text.now at result }
 {
     let (_, rest) = text.split_at(at);
-    at + rest.iter().take_while(|b| **b != b'\n').count()
+    at + line_len(rest)
 }
 
 /// The token that begins at a place on its line.
