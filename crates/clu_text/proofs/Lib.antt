@@ -4,3 +4,5 @@ pub mod Symbols
 pub mod Fronts
 pub mod Bytes
 pub mod Places
+pub mod Filling
+pub mod Answering
