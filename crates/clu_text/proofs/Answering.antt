@@ -1,6 +1,6 @@
 -- What `tokens` answers.
-use Rattle.std.proofs.Common.{◌≡◌, ◌≢◌, ℕ, ◌≤◌, ◌<◌, false, List, length, refl, sym, ap, ◌∙◌, subst, inl, inr, arith}
-use Rattle.std.specs.Prelude.{◌⊎◌, Result, Ok, Err, IfOk, OnOk, IsErrAnd, IsOkUnless, All, IsFalse, slice_index}
+use Rattle.std.proofs.Common.{◌≡◌, ℕ, ◌≤◌, ◌<◌, false, List, length, refl, sym, ap, subst, inl, inr, arith}
+use Rattle.std.specs.Prelude.{◌⊎◌, Result, Ok, Err, IfOk, OnOk, IsErrAnd, IsOkUnless, All, slice_index}
 use Rattle.clu_text.specs.declared.token.Token.{Token}
 use Rattle.clu_text.specs.declared.fault.TextFault.{TextFault}
 use Rattle.clu_text.specs.declared.fault.TextFault.TheVariants.{BadByte, Wide, Memory}

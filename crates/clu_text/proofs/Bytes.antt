@@ -1,15 +1,15 @@
 -- What a token's bytes tell of it.
-use Rattle.std.proofs.Common.{◌≡◌, ◌≢◌, ℕ, zero, suc, ◌≤◌, ◌<◌, Bool, true, false, List, [], ◌∷◌, length, Some, refl, sym, ap, ◌∙◌, subst, inl, inr, take, arith}
+use Rattle.std.proofs.Common.{◌≡◌, ◌≢◌, ℕ, ◌≤◌, Bool, true, false, List, [], ◌∷◌, refl, sym, ap, ◌∙◌, inl, inr, take, arith}
 use Rattle.std.specs.Prelude.{◌&&◌, ◌||◌, ◌==◌, not, nat_le, IsTrue, All, if◌then◌else◌}
 use Rattle.std.specs.List.{list_all}
-use Rattle.std.proofs.lemmas.Bool.{eqb-true, eqb-false, ne_eqb, leb-true, cases_eq, or_cases, and_parts, not-true, cond-true, cond-false}
+use Rattle.std.proofs.lemmas.Bool.{eqb-true, eqb-false, ne_eqb, leb-true, or_cases, and_parts, not-true, cond-true, cond-false}
 use Rattle.std.proofs.lemmas.List.Sums.{AllPass-from_list_all}
 use Rattle.std.proofs.lemmas.List.Elements.{All-contains, All-cons, All-nil, All-weaker}
 use Rattle.clu_text.specs.declared.token.TokenKind.{TokenKind}
 use Rattle.clu_text.specs.declared.token.TokenKind.TheVariants as kind
-use Rattle.clu_text.specs.Spelling.{within, is_lower, is_digit, is_word_byte, escaped, HasParts, closed, plain, escape, symbols, IsSymbol, IsSpelling, word, int, char, string, symbol, IsToken, a_word, an_int, a_char, a_string, a_symbol}
+use Rattle.clu_text.specs.Spelling.{is_lower, is_digit, is_word_byte, escaped, HasParts, closed, plain, escape, symbols, IsSymbol, IsSpelling, word, int, char, string, symbol, IsToken, a_word, an_int, a_char, a_string, a_symbol}
 use Rattle.clu_text.specs.Tokens.{is_blank}
-use Rattle.clu_text.specs.Front.{BeginsOther, IsFront}
+use Rattle.clu_text.specs.Front.{IsFront}
 use Rattle.clu_text.proofs.Fronts.{symbol_first, digit_isnt_lower, first_digit, token-spells, spelling-some}
 
 -- ---- bytes

@@ -1,10 +1,10 @@
 -- The tokens from one place of a text to another.
-use Rattle.std.proofs.Common.{◌≡◌, ◌≢◌, ℕ, ◌+◌, ◌≤◌, ◌<◌, ◌^◌, Bool, true, false, List, [], ◌∷◌, ◌++◌, length, refl, sym, ap, ◌∙◌, subst, inl, inr, arith}
-use Rattle.std.specs.Prelude.{◌⊎◌, IsTrue, All, slice_index}
+use Rattle.std.proofs.Common.{◌≡◌, ℕ, ◌+◌, ◌≤◌, ◌<◌, true, List, [], ◌∷◌, ◌++◌, length, refl, sym, ap, ◌∙◌, subst, arith}
+use Rattle.std.specs.Prelude.{All, slice_index}
 use Rattle.std.proofs.lemmas.List.{append-nil}
-use Rattle.std.proofs.lemmas.List.Elements.{All-nil, All-cons, All-head, All-tail, All-append}
+use Rattle.std.proofs.lemmas.List.Elements.{All-nil, All-cons, All-head, All-tail}
 use Rattle.clu_text.specs.declared.token.Token.{Token}
-use Rattle.clu_text.specs.Tokens.{is_blank, spelling_of, IsComment, IsTokenAt, Fills, here, blank, comment, token, IsInRange, HasTokens, NothingBegins, BeginsWide, IsFirstBad, IsFirstWide, IsBadByte, IsWide, HasNoFault, IsSpelled, AreInOrder}
+use Rattle.clu_text.specs.Tokens.{is_blank, IsComment, IsTokenAt, Fills, here, blank, comment, token, IsInRange, HasTokens, NothingBegins, BeginsWide, IsFirstBad, IsFirstWide, IsBadByte, IsWide, HasNoFault, IsSpelled, AreInOrder}
 use Rattle.clu_text.proofs.Bytes.{Starts, starts-no_blank}
 use Rattle.clu_text.proofs.Places.{token-some, token-starts, one_token_at, one_comment}
 

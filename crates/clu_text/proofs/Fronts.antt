@@ -1,9 +1,9 @@
 -- The token at the front of the bytes.
-use Rattle.std.proofs.Common.{◌≡◌, ◌≢◌, ℕ, zero, suc, ◌+◌, ◌≤◌, ◌<◌, Bool, true, false, List, [], ◌∷◌, ◌++◌, length, Option, Some, None, refl, sym, ap, ◌∙◌, subst, get_or, take, drop, inl, inr, arith}
-use Rattle.std.specs.Prelude.{◌||◌, ◌==◌, nat_le, IsTrue, All}
+use Rattle.std.proofs.Common.{◌≡◌, ℕ, zero, suc, ◌+◌, ◌≤◌, ◌<◌, Bool, true, false, List, [], ◌∷◌, length, refl, sym, ap, ◌∙◌, subst, get_or, take, arith}
+use Rattle.std.specs.Prelude.{◌==◌, nat_le, IsTrue, All}
 use Rattle.std.specs.List.{prefix_len}
 use Rattle.std.proofs.lemmas.Bool.{leb-true, lt-leb, or_left, and_parts, and_left, cond-true}
-use Rattle.std.proofs.lemmas.List.{take-append-drop, length-take, get_or-take, length-take-le}
+use Rattle.std.proofs.lemmas.List.{length-take, get_or-take, length-take-le}
 use Rattle.std.proofs.lemmas.List.Sums.{prefix_len-le-length, prefix_len_passes}
 use Rattle.std.proofs.lemmas.List.Elements.{All-cons, All-head, All-tail}
 use Rattle.clu_text.specs.declared.token.TokenKind.{TokenKind}

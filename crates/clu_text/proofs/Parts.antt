@@ -1,7 +1,7 @@
 -- The parts behind a quote, found byte by byte.
 use Rattle.std.proofs.Common.{◌≡◌, ◌≢◌, ℕ, suc, ◌+◌, ◌≤◌, ◌<◌, Bool, true, false, List, [], ◌∷◌, ◌++◌, length, Option, Some, None, refl, sym, ap, ◌∙◌, subst, get_or, take, drop, inl, inr, arith}
-use Rattle.std.specs.Prelude.{◌==◌, IsTrue, if◌then◌else◌, is_some}
-use Rattle.std.proofs.lemmas.Bool.{eqb-true, eqb-false, eq-eqb, ne_eqb, cases_Bool, cases_eq, cond-true, cond-false}
+use Rattle.std.specs.Prelude.{◌==◌, if◌then◌else◌, is_some}
+use Rattle.std.proofs.lemmas.Bool.{eq-eqb, ne_eqb, cases_Bool, cases_eq, cond-true, cond-false}
 use Rattle.std.proofs.lemmas.List.{at_drop_more, at_drop_all, take-append-drop, length-take-le}
 use Rattle.clu_text.specs.Spelling.{within, escaped, HasParts, closed, plain, escape}
 use Rattle.clu_text.specs.Front.{Closes}
@@ -179,7 +179,7 @@ pub after-escape : (quote : ℕ) (bytes : List ℕ) (e f : Bool) (at p r : ℕ) 
     Counting quote bytes e at p → Counting quote bytes f (at + 1) r
 after-escape quote bytes e f at p r lt is next more h same =
     let here : counted quote true at p (drop at bytes) ≡ counted quote false (at + 1) (p + 1) (drop (at + 1) bytes) =
-        step (counted quote true at p) _ bytes at lt (counted-escape quote at p _ (drop (at + 1) bytes) h) in
+    step (counted quote true at p) _ bytes at lt (counted-escape quote at p _ (drop (at + 1) bytes) h) in
     let before = ap (λ (x : Bool). counted quote x at p (drop at bytes)) is in
     let behind = ap (λ (x : Bool). counted quote x (at + 1) r (drop (at + 1) bytes)) next ∙ ap (λ (x : ℕ). counted quote false (at + 1) x (drop (at + 1) bytes)) more in
     cc
@@ -188,7 +188,7 @@ pub after-backslash : (quote : ℕ) (bytes : List ℕ) (e f : Bool) (at p r : �
     Counting quote bytes e at p → Counting quote bytes f (at + 1) r
 after-backslash quote bytes e f at p r lt is next more q h same =
     let here : counted quote false at p (drop at bytes) ≡ counted quote true (at + 1) p (drop (at + 1) bytes) =
-        step (counted quote false at p) _ bytes at lt (counted-backslash quote at p _ (drop (at + 1) bytes) q h) in
+    step (counted quote false at p) _ bytes at lt (counted-backslash quote at p _ (drop (at + 1) bytes) q h) in
     let before = ap (λ (x : Bool). counted quote x at p (drop at bytes)) is in
     let behind = ap (λ (x : Bool). counted quote x (at + 1) r (drop (at + 1) bytes)) next ∙ ap (λ (x : ℕ). counted quote true (at + 1) x (drop (at + 1) bytes)) more in
     cc
@@ -197,7 +197,7 @@ pub after-plain : (quote : ℕ) (bytes : List ℕ) (e f : Bool) (at p r : ℕ) �
     Counting quote bytes e at p → Counting quote bytes f (at + 1) r
 after-plain quote bytes e f at p r lt is next more q k h same =
     let here : counted quote false at p (drop at bytes) ≡ counted quote false (at + 1) (p + 1) (drop (at + 1) bytes) =
-        step (counted quote false at p) _ bytes at lt (counted-plain quote at p _ (drop (at + 1) bytes) q k h) in
+    step (counted quote false at p) _ bytes at lt (counted-plain quote at p _ (drop (at + 1) bytes) q k h) in
     let before = ap (λ (x : Bool). counted quote x at p (drop at bytes)) is in
     let behind = ap (λ (x : Bool). counted quote x (at + 1) r (drop (at + 1) bytes)) (next ∙ is) ∙ ap (λ (x : ℕ). counted quote false (at + 1) x (drop (at + 1) bytes)) more in
     cc

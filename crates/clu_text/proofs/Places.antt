@@ -1,6 +1,6 @@
 -- Tokens, comments and blanks at their places in a text.
-use Rattle.std.proofs.Common.{◌≡◌, ◌≢◌, ℕ, zero, suc, ◌+◌, ◌-◌, ◌≤◌, ◌<◌, ◌^◌, Bool, true, false, List, [], ◌∷◌, length, refl, sym, ap, ◌∙◌, subst, get_or, take, drop, inl, inr, arith}
-use Rattle.std.specs.Prelude.{◌⊎◌, ◌==◌, not, IsTrue, slice_index, slice_range, count_by}
+use Rattle.std.proofs.Common.{◌≡◌, ◌≢◌, ℕ, zero, suc, ◌+◌, ◌-◌, ◌≤◌, ◌<◌, ◌^◌, Bool, List, [], ◌∷◌, length, refl, sym, ap, ◌∙◌, subst, get_or, take, drop, inl, inr, arith}
+use Rattle.std.specs.Prelude.{◌==◌, not, slice_index, slice_range}
 use Rattle.std.specs.List.{prefix_len}
 use Rattle.std.proofs.lemmas.Bool.{eqb-true, eqb-false, eq-eqb, ne_eqb, not-true, not-false, not_from_false, cases_lt}
 use Rattle.std.proofs.lemmas.List.{length-take, length-drop, length-take-le, get_or-take, get_or-drop}
@@ -10,7 +10,7 @@ use Rattle.clu_text.specs.declared.token.Token.{Token}
 use Rattle.clu_text.specs.declared.token.TokenKind.{TokenKind}
 use Rattle.clu_text.specs.declared.token.TokenKind.TheVariants as kind
 use Rattle.clu_text.specs.Spelling.{IsInt, int_value, IsSpelling, IsToken, a_word, an_int, a_char, a_string, a_symbol}
-use Rattle.clu_text.specs.Tokens.{is_blank, line_at, spelling_of, IsComment, IsTokenAt, IsInRange, BeginsWide}
+use Rattle.clu_text.specs.Tokens.{line_at, spelling_of, IsComment, IsTokenAt, IsInRange, BeginsWide}
 use Rattle.clu_text.specs.Front.{IsFront}
 use Rattle.clu_text.proofs.Fronts.{token-spells, spelling-some}
 use Rattle.clu_text.proofs.Bytes.{one_front, Starts, spelling-starts, token-one_line}
@@ -114,10 +114,10 @@ line-token text t h =
     let size = length-take-le (t.to - t.from) (drop t.from text) (omega (arith, length-drop t.from text, h.within)) in
     sym (ap (line_at text) whole) ∙ line-along text t.from (t.to - t.from) (omega (arith, h.within))
     (λ k low high e.
-      let i : ℕ = k - t.from in
-      let is : t.from + i ≡ k = omega arith in
-      let byte = token_byte text t i (omega arith) ∙ ap (slice_index text) is in
-      All-get_or (λ x. x ≢ 10) (spelling_of text t) i 0 (omega arith) (token-one_line t.kind (spelling_of text t) h.spelled) (byte ∙ e))
+    let i : ℕ = k - t.from in
+    let is : t.from + i ≡ k = omega arith in
+    let byte = token_byte text t i (omega arith) ∙ ap (slice_index text) is in
+    All-get_or (λ x. x ≢ 10) (spelling_of text t) i 0 (omega arith) (token-one_line t.kind (spelling_of text t) h.spelled) (byte ∙ e))
 
 -- behind a comment too
 pub line-comment : (text : List ℕ) (from to : ℕ) → IsComment text from to → line_at text to ≡ line_at text from

@@ -1,8 +1,8 @@
 -- The symbols, by their bytes.
-use Rattle.std.proofs.Common.{◌≡◌, ◌≢◌, ℕ, zero, suc, ◌≤◌, ◌<◌, Bool, true, false, List, [], ◌∷◌, length, refl, sym, ap, ◌∙◌, subst, inl, inr, take, drop, ◌++◌, lit<, arith}
-use Rattle.std.specs.Prelude.{◌&&◌, ◌||◌, ◌==◌, not, codes, IsTrue, All}
-use Rattle.std.specs.List.{list_any, list_all, AllByRecursion}
-use Rattle.std.proofs.lemmas.Bool.{eqb-true, eq-eqb, ne_eqb, cases_Bool, cases_eq, or_cases, and_parts, not-true, eqb-false, cond-true, cond-false}
+use Rattle.std.proofs.Common.{◌≡◌, ℕ, ◌≤◌, ◌<◌, Bool, true, false, List, [], ◌∷◌, length, refl, sym, ap, ◌∙◌, subst, inl, inr, take, drop, ◌++◌, lit<, arith}
+use Rattle.std.specs.Prelude.{◌&&◌, ◌||◌, ◌==◌, not, codes}
+use Rattle.std.specs.List.{list_any, AllByRecursion}
+use Rattle.std.proofs.lemmas.Bool.{eqb-true, cases_Bool, or_cases, and_parts, not-true, eqb-false, cond-true, cond-false}
 use Rattle.std.proofs.lemmas.List.Sums.{AllPass-from_list_all}
 use Rattle.std.proofs.lemmas.List.Elements.{All-contains}
 use Rattle.std.proofs.lemmas.List.{take-append-drop, length-take-le}
@@ -66,10 +66,49 @@ one_of b (x ∷ xs) all h =
 
 pub single_symbol : (b : ℕ) → is_single b ≡ true → IsSymbol (b ∷ [])
 single_symbol b h =
-    one_of b (codes "$()[]{},.:=<>+-*/&|~")
-    ((1, lit< tt, refl), ((2, lit< tt, refl), ((3, lit< tt, refl), ((4, lit< tt, refl), ((5, lit< tt, refl), ((6, lit< tt, refl), ((7, lit< tt, refl),
-    ((8, lit< tt, refl), ((9, lit< tt, refl), ((10, lit< tt, refl), ((11, lit< tt, refl), ((13, lit< tt, refl), ((15, lit< tt, refl), ((17, lit< tt, refl),
-    ((18, lit< tt, refl), ((19, lit< tt, refl), ((20, lit< tt, refl), ((23, lit< tt, refl), ((24, lit< tt, refl), ((25, lit< tt, refl), tt)))))))))))))))))))) h
+    one_of b (codes "$()[]{},.:=<>+-*/&|~") (
+      (1, lit< tt, refl),
+      (
+        (2, lit< tt, refl),
+        (
+          (3, lit< tt, refl),
+          (
+            (4, lit< tt, refl),
+            (
+              (5, lit< tt, refl),
+              (
+                (6, lit< tt, refl),
+                (
+                  (7, lit< tt, refl),
+                  (
+                    (8, lit< tt, refl),
+                    (
+                      (9, lit< tt, refl),
+                      (
+                        (10, lit< tt, refl),
+                        (
+                          (11, lit< tt, refl),
+                          (
+                            (13, lit< tt, refl),
+                            (
+                              (15, lit< tt, refl),
+                              (
+                                (17, lit< tt, refl),
+                                ((18, lit< tt, refl), ((19, lit< tt, refl), ((20, lit< tt, refl), ((23, lit< tt, refl), ((24, lit< tt, refl), ((25, lit< tt, refl), tt)))))),
+                              ),
+                            ),
+                          ),
+                        ),
+                      ),
+                    ),
+                  ),
+                ),
+              ),
+            ),
+          ),
+        ),
+      ),
+    ) h
 
 pair_at : (a b x y : ℕ) → a ≡ x → b ≡ y → IsSymbol (x ∷ y ∷ []) → IsSymbol (a ∷ b ∷ [])
 pair_at a b x y e f h = subst (λ z. IsSymbol (z ∷ b ∷ [])) (sym e) (subst (λ z. IsSymbol (x ∷ z ∷ [])) (sym f) h)

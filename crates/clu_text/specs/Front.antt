@@ -1,5 +1,5 @@
 -- What stands at the front of the bytes, and what the private functions answer.
-use Rattle.std.specs.Prelude.{ℕ, ◌<◌, ◌≤◌, ◌≡◌, ◌≢◌, ◌+◌, Bool, ◌||◌, ◌&&◌, ◌==◌, List, [], ◌∷◌, length, take, Option, Some, None, Result, Ok, Err, codes, if◌then◌else◌, false}
+use Rattle.std.specs.Prelude.{ℕ, ◌≤◌, ◌≡◌, ◌≢◌, Bool, ◌||◌, ◌==◌, List, [], ◌∷◌, length, take, Option, Some, None, Result, Ok, Err, codes, if◌then◌else◌, false}
 use Rattle.std.specs.List.{list_any}
 use Rattle.clu_text.specs.declared.fault.TextFault.{TextFault}
 use Rattle.clu_text.specs.declared.fault.TextFault.TheVariants as fault

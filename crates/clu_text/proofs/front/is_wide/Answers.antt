@@ -1,4 +1,4 @@
-use Rattle.std.proofs.Common.{◌≤◌, ◌^◌, ◌*◌, ◌+◌, ◌-◌, get_or, refl, arith}
+use Rattle.std.proofs.Common.{◌≤◌, ◌^◌, refl, arith}
 use Rattle.clu_text.specs.Spelling.{int_value}
 use Rattle.clu_text.proofs.Numbers.{int_from-reaches}
 use Rattle.clu_text.proofs.front.is_wide.Goals as goal

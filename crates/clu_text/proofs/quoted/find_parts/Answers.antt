@@ -24,20 +24,20 @@ pub loop-at-preserved : goal.loop-at-preserved
 loop-at-preserved c =
     elim c.if-escaping.branch [
       | then-escaping+else-not-is_escape w ↦ record {
-          few = omega arith;
-          same = after-escape c.args.quote c.args.bytes.now c.loop-at.escaping c.if-escaping.escaping c.loop-at.at c.loop-at.parts c.if-escaping.parts c.loop-at-test.true
-              w.if-escaping.true w.escaping-is w.parts-is (sym w.is_escape.ensures ∙ w.if-not-is_escape.false) c.loop-at.invariant.same;
-        }
+        few = omega arith;
+        same = after-escape c.args.quote c.args.bytes.now c.loop-at.escaping c.if-escaping.escaping c.loop-at.at c.loop-at.parts c.if-escaping.parts c.loop-at-test.true
+            w.if-escaping.true w.escaping-is w.parts-is (sym w.is_escape.ensures ∙ w.if-not-is_escape.false) c.loop-at.invariant.same;
+      }
       | else-escaping+else-b-quote+then-b-eq92 w ↦ record {
-          few = omega arith;
-          same = after-backslash c.args.quote c.args.bytes.now c.loop-at.escaping c.if-escaping.escaping c.loop-at.at c.loop-at.parts c.if-escaping.parts c.loop-at-test.true
-              w.if-escaping.false w.escaping-is w.parts-is w.if-b-quote.false w.if-b-eq92.true c.loop-at.invariant.same;
-        }
+        few = omega arith;
+        same = after-backslash c.args.quote c.args.bytes.now c.loop-at.escaping c.if-escaping.escaping c.loop-at.at c.loop-at.parts c.if-escaping.parts c.loop-at-test.true
+            w.if-escaping.false w.escaping-is w.parts-is w.if-b-quote.false w.if-b-eq92.true c.loop-at.invariant.same;
+      }
       | else-escaping+else-b-quote+else-b-eq92+then-is_printable w ↦ record {
-          few = omega arith;
-          same = after-plain c.args.quote c.args.bytes.now c.loop-at.escaping c.if-escaping.escaping c.loop-at.at c.loop-at.parts c.if-escaping.parts c.loop-at-test.true
-              w.if-escaping.false w.escaping-is w.parts-is w.if-b-quote.false w.if-b-eq92.false (sym w.is_printable.ensures ∙ w.if-is_printable.true) c.loop-at.invariant.same;
-        }
+        few = omega arith;
+        same = after-plain c.args.quote c.args.bytes.now c.loop-at.escaping c.if-escaping.escaping c.loop-at.at c.loop-at.parts c.if-escaping.parts c.loop-at-test.true
+            w.if-escaping.false w.escaping-is w.parts-is w.if-b-quote.false w.if-b-eq92.false (sym w.is_printable.ensures ∙ w.if-is_printable.true) c.loop-at.invariant.same;
+      }
     ]
 
 pub returns : goal.returns

@@ -10,6 +10,8 @@ is_wide-requires c =
     int_at c.split_at.result.1.now c.split_at-2.result.0.now c.in-Some.spelling.len c.in-Some.spelling.kind c.in-Int.is c.split_at-2.ensures.front c.in-Some.ensures
 
 pub returns-in-Int : goal.returns-in-Int
-returns-in-Int c =
-    (refl, wide_at c.args.text.now c.split_at.result.1.now c.split_at-2.result.0.now c.args.at c.in-Some.spelling.len c.args.line c.in-Some.spelling.kind
-    c.split_at.ensures.back c.split_at-2.ensures.front c.requires.within c.requires.line c.in-Some.ensures c.in-Int.is (c.is_wide.ensures.0 c.if-is_wide.true))
+returns-in-Int c = (
+  refl,
+  wide_at c.args.text.now c.split_at.result.1.now c.split_at-2.result.0.now c.args.at c.in-Some.spelling.len c.args.line c.in-Some.spelling.kind
+      c.split_at.ensures.back c.split_at-2.ensures.front c.requires.within c.requires.line c.in-Some.ensures c.in-Int.is (c.is_wide.ensures.0 c.if-is_wide.true),
+)

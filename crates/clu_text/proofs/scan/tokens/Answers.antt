@@ -43,7 +43,7 @@ pub returns-in_err-token : goal.returns-in_err-token
 returns-in_err-token c =
     let text = c.args.text.now in
     let tells = tells_at text c.loop-at.at c.loop-at.found.items c.in_err-token.field-0.0 c.loop-at-test.true c.if-first-eq37.false (sym c.is_blank.ensures ∙ c.if-is_blank.false)
-        c.loop-at.invariant.filled c.loop-at.invariant.in_range c.in_err-token.ensures in
+    c.loop-at.invariant.filled c.loop-at.invariant.in_range c.in_err-token.ensures in
     let answer = answer-err (λ v. v.items) text c.from_residual.result c.in_err-token.field-0.0 c.from_residual.ensures.1 tells in
     record {
       ok = ok (λ v. v.items) text c.from_residual.result answer;
