@@ -56,11 +56,11 @@ shape w h = from_shape w (symbol-shape w h)
 
 -- ---- what is a symbol
 
-one_of : (b : ℕ) (xs : List ℕ) → AllByRecursion (λ x. IsSymbol (x ∷ [])) xs → list_any (λ x. b == x) xs ≡ true → IsSymbol (b ∷ [])
+one_of : (b : ℕ) (xs : List ℕ) → AllByRecursion (λ x. IsSymbol (x ∷ [])) xs → list_any (λ x. x == b) xs ≡ true → IsSymbol (b ∷ [])
 one_of b [] all h = absurd cc
 one_of b (x ∷ xs) all h =
-    elim (or_cases (b == x) _ h) [
-      | inl e ↦ subst (λ y. IsSymbol (y ∷ [])) (sym (eqb-true b x e)) all.0
+    elim (or_cases (x == b) _ h) [
+      | inl e ↦ subst (λ y. IsSymbol (y ∷ [])) (eqb-true x b e) all.0
       | inr k ↦ one_of b xs all.1 k
     ]
 

@@ -12,7 +12,7 @@ use Rattle.clu_text.specs.Tokens.{IsTokenAt, IsInRange, BeginsWide}
 
 -- the symbols of one byte
 abbrev pub is_single : ℕ → Bool
-is_single b = list_any (λ x. b == x) (codes "$()[]{},.:=<>+-*/&|~")
+is_single b = list_any (λ x. x == b) (codes "$()[]{},.:=<>+-*/&|~")
 
 -- the symbols of two bytes
 abbrev pub is_pair : ℕ → ℕ → Bool

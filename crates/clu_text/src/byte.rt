@@ -10,14 +10,14 @@ ghost use Rattle.clu_text.specs.Front as front;
 fn is_lower(b: u8) -> bool
     ensures { result ≡ spelling.is_lower b }
 {
-    97 <= b && b <= 122
+    b'a' <= b && b <= b'z'
 }
 
 /// `0` to `9`.
 pub fn is_digit(b: u8) -> bool
     ensures { result ≡ spelling.is_digit b }
 {
-    48 <= b && b <= 57
+    b'0' <= b && b <= b'9'
 }
 
 /// What may follow in a word.
@@ -38,7 +38,7 @@ pub fn is_blank(b: u8) -> bool
 pub fn is_printable(b: u8) -> bool
     ensures { result ≡ spelling.within 32 126 b }
 {
-    32 <= b && b <= 126
+    b' ' <= b && b <= b'~'
 }
 
 /// What may stand behind `\`.
@@ -52,28 +52,7 @@ pub fn is_escape(b: u8) -> bool
 pub fn is_single(b: u8) -> bool
     ensures { result ≡ front.is_single b }
 {
-    matches!(
-        b,
-        b'$' | b'('
-            | b')'
-            | b'['
-            | b']'
-            | b'{'
-            | b'}'
-            | b','
-            | b'.'
-            | b':'
-            | b'='
-            | b'<'
-            | b'>'
-            | b'+'
-            | b'-'
-            | b'*'
-            | b'/'
-            | b'&'
-            | b'|'
-            | b'~'
-    )
+    b"$()[]{},.:=<>+-*/&|~".contains(&b)
 }
 
 /// The symbols of two bytes.
