@@ -4,13 +4,13 @@ use Rattle.std.specs.Prelude.{◌==◌, not, slice_index, slice_range}
 use Rattle.std.specs.List.{prefix_len}
 use Rattle.std.proofs.lemmas.Bool.{eqb-true, eqb-false, eq-eqb, ne_eqb, not-true, not-false, not_from_false, cases_lt}
 use Rattle.std.proofs.lemmas.List.{length-take, length-drop, length-take-le, get_or-take, get_or-drop}
-use Rattle.std.proofs.lemmas.List.Sums.{prefix_len-le-length, prefix_len_passes, prefix_len_stops, prefix_len-drop_yes, count_by_more_yes, count_by_more_no, count_by-le-length}
+use Rattle.std.proofs.lemmas.List.Sums.{prefix_len-le-length, prefix_len_passes, prefix_len_stops, prefix_len-drop_yes, count_by_more_yes, count_by_more_no}
 use Rattle.std.proofs.lemmas.List.Elements.{All-get_or}
 use Rattle.clu_text.specs.declared.token.Token.{Token}
 use Rattle.clu_text.specs.declared.token.TokenKind.{TokenKind}
 use Rattle.clu_text.specs.declared.token.TokenKind.TheVariants as kind
 use Rattle.clu_text.specs.Spelling.{IsInt, int_value, IsSpelling, IsToken, a_word, an_int, a_char, a_string, a_symbol}
-use Rattle.clu_text.specs.Tokens.{line_at, spelling_of, IsComment, IsTokenAt, IsInRange, BeginsWide}
+use Rattle.clu_text.specs.Tokens.{line_at, spelling_of, IsComment, IsTokenAt, BeginsWide}
 use Rattle.clu_text.specs.Front.{IsFront}
 use Rattle.clu_text.proofs.Fronts.{token-spells, spelling-some}
 use Rattle.clu_text.proofs.Bytes.{one_front, Starts, spelling-starts, token-one_line}
@@ -98,13 +98,6 @@ line-along text from (suc n) le h =
     let last = line-same text (from + n) (omega arith) (h (from + n) (omega arith) (omega arith)) in
     let next : from + suc n ≡ from + n + 1 = omega arith in
     ap (line_at text) next ∙ (last ∙ ih)
-
--- a line is at most one above its place
-pub line-bound : (text : List ℕ) (at : ℕ) → line_at text at ≤ at + 1
-line-bound text at =
-    let few = count_by-le-length (λ b. b == 10) (take at text) in
-    let size = length-take at text in
-    omega arith
 
 -- behind a token the line is the same
 pub line-token : (text : List ℕ) (t : Token) → IsTokenAt text t → line_at text t.to ≡ line_at text t.from
@@ -209,9 +202,3 @@ wide_at text bytes spelled at n line k is e lt same f int wide = record {
   int = int;
   wide = subst (λ w. 2 ^ 63 ≤ int_value w) (spelled_at text bytes spelled at n is e) wide;
 }
-
-pub range_at : (text bytes spelled : List ℕ) (at n line : ℕ) (k : TokenKind) → bytes ≡ drop at text → spelled ≡ take n bytes → (k ≡ kind.Int → 2 ^ 63 ≤ int_value spelled → ⊥) →
-    IsInRange text (record { kind = k; from = at; to = at + n; line = line })
-range_at text bytes spelled at n line k is e narrow int =
-    let below : int_value spelled < 2 ^ 63 = elim (cases_lt (int_value spelled) (2 ^ 63)) [ inl h ↦ h | inr h ↦ absurd (narrow int h) ] in
-    subst (λ w. int_value w < 2 ^ 63) (spelled_at text bytes spelled at n is e) below
