@@ -1,0 +1,47 @@
+-- The operations on ints and chars.
+use Rattle.std.specs.Prelude.{ℕ, ◌^◌, ℤ, pos, negsuc, zero, neg_ℤ, Bool, true, false, nat_lt, nat_le, ◌==◌, if◌then◌else◌, List, [], ◌∷◌, codes}
+use Rattle.std.specs.Int.{int_div_euclid, int_rem_euclid}
+use Rattle.std.specs.Str.{all_ascii_digits}
+use Rattle.std.specs.Str.Parse.{digits_value}
+use Rattle.clu_ops.specs.declared.op_end.OpEnd.{OpEnd}
+use Rattle.clu_ops.specs.Ends.{number, character, signal}
+
+-- z is from -2^63 to 2^63 - 1
+abbrev pub is_int : ℤ → Bool
+is_int (pos n) = nat_lt n (2 ^ 63)
+is_int (negsuc n) = nat_lt n (2 ^ 63)
+
+-- z, where it is an int
+abbrev pub ranged : ℤ → OpEnd
+ranged z = if is_int z then number z else signal (codes "overflow")
+
+abbrev pub is_zero : ℤ → Bool
+is_zero (pos zero) = true
+is_zero z = false
+
+-- the quotient q of x = q*y + r with 0 <= r < |y|
+abbrev pub quotient : ℤ → ℤ → OpEnd
+quotient x y = if is_zero y then signal (codes "zero_divide") else ranged (int_div_euclid x y)
+
+-- that remainder r, where the quotient is an int
+abbrev pub remainder : ℤ → ℤ → OpEnd
+remainder x y = if is_zero y then signal (codes "zero_divide")
+    else (if is_int (int_div_euclid x y) then number (int_rem_euclid x y) else signal (codes "overflow"))
+
+-- the int that decimal digits write, or its negative
+abbrev pub numeral : Bool → List ℕ → OpEnd
+numeral minus [] = signal (codes "bad_format")
+numeral minus (c ∷ cs) =
+    if all_ascii_digits (c ∷ cs)
+    then ranged (if minus then neg_ℤ (pos (digits_value 10 (c ∷ cs))) else pos (digits_value 10 (c ∷ cs)))
+    else signal (codes "bad_format")
+
+-- the int that a text writes: a `-` or none, and at least one digit
+abbrev pub parsed : List ℕ → OpEnd
+parsed [] = signal (codes "bad_format")
+parsed (c ∷ cs) = if c == 45 then numeral true cs else numeral false (c ∷ cs)
+
+-- the char of a code from 0 to 255
+abbrev pub char_of : ℤ → OpEnd
+char_of (pos n) = if nat_le n 255 then character n else signal (codes "illegal_char")
+char_of (negsuc n) = signal (codes "illegal_char")
