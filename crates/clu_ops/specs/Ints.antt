@@ -1,8 +1,9 @@
 -- The operations on ints and chars.
-use Rattle.std.specs.Prelude.{ℕ, ◌^◌, ℤ, pos, negsuc, zero, neg_ℤ, Bool, true, false, nat_lt, nat_le, ◌==◌, if◌then◌else◌, List, [], ◌∷◌, codes}
+use Rattle.std.specs.Prelude.{ℕ, ◌^◌, ℤ, pos, negsuc, zero, neg_ℤ, Bool, true, false, nat_lt, nat_le, if◌then◌else◌, List, [], ◌∷◌, drop, codes}
 use Rattle.std.specs.Int.{int_div_euclid, int_rem_euclid}
-use Rattle.std.specs.Str.{all_ascii_digits}
-use Rattle.std.specs.Str.Parse.{digits_value}
+use Rattle.std.specs.List.{list_all}
+use Rattle.std.specs.Char.{is_ascii_digit}
+use Rattle.std.specs.Str.Parse.{digits_value, starts_with_minus}
 use Rattle.clu_ops.specs.declared.op_end.OpEnd.{OpEnd}
 use Rattle.clu_ops.specs.Ends.{number, character, signal}
 
@@ -28,18 +29,22 @@ abbrev pub remainder : ℤ → ℤ → OpEnd
 remainder x y = if is_zero y then signal (codes "zero_divide")
     else (if is_int (int_div_euclid x y) then number (int_rem_euclid x y) else signal (codes "overflow"))
 
--- the int that decimal digits write, or its negative
-abbrev pub numeral : Bool → List ℕ → OpEnd
-numeral minus [] = signal (codes "bad_format")
-numeral minus (c ∷ cs) =
-    if all_ascii_digits (c ∷ cs)
-    then ranged (if minus then neg_ℤ (pos (digits_value 10 (c ∷ cs))) else pos (digits_value 10 (c ∷ cs)))
-    else signal (codes "bad_format")
+-- what stands behind a leading `-`, or else the whole text
+abbrev pub magnitude : List ℕ → List ℕ
+magnitude t = if starts_with_minus t then drop 1 t else t
+
+-- at least one digit, and nothing else
+abbrev pub is_numeral : List ℕ → Bool
+is_numeral [] = false
+is_numeral (c ∷ cs) = list_all is_ascii_digit (c ∷ cs)
+
+-- the number that digits write, its negative behind a `-`
+abbrev pub written : List ℕ → ℤ
+written t = if starts_with_minus t then neg_ℤ (pos (digits_value 10 (magnitude t))) else pos (digits_value 10 (magnitude t))
 
 -- the int that a text writes: a `-` or none, and at least one digit
 abbrev pub parsed : List ℕ → OpEnd
-parsed [] = signal (codes "bad_format")
-parsed (c ∷ cs) = if c == 45 then numeral true cs else numeral false (c ∷ cs)
+parsed t = if is_numeral (magnitude t) then ranged (written t) else signal (codes "bad_format")
 
 -- the char of a code from 0 to 255
 abbrev pub char_of : ℤ → OpEnd

@@ -1,9 +1,14 @@
 //! The built-in operations on ints, bools, chars, strings and nil.
 #![tactic(auto)]
 
-mod apply;
+mod ends;
 mod fault;
+mod ints;
 mod op_end;
+mod parsing;
+mod table;
+mod texts;
 
 pub use fault::Memory;
 pub use op_end::OpEnd;
+pub use table::apply;
