@@ -14,3 +14,6 @@ pub use fault::Memory;
 pub use laws::{division, parse_after_unparse};
 pub use op_end::OpEnd;
 pub use table::apply;
+
+#[cfg(test)]
+mod tests;
