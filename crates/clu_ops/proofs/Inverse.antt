@@ -1,10 +1,8 @@
 -- A text that an int is written as writes that int.
-use Rattle.std.proofs.Common.{rules, arith, ◌≡◌, ◌≢◌, ◌<◌, ◌≤◌, ℕ, zero, suc, ℤ, pos, negsuc, neg_ℤ, Bool, true, false, List, [], ◌∷◌, length, drop, refl, sym, ap, ◌∙◌, slice_index_or}
+use Rattle.std.proofs.Common.{arith, ◌≡◌, ◌≢◌, ◌<◌, ℕ, suc, ℤ, pos, negsuc, neg_ℤ, Bool, true, false, List, ◌∷◌, drop, refl, sym, ap, ◌∙◌, slice_index_or}
 use Rattle.std.specs.Prelude.{◌^◌, if◌then◌else◌, codes, nat_lt}
 use Rattle.std.specs.Fmt.{decimal, signed_decimal}
 use Rattle.std.proofs.lemmas.Fmt.{digits_decimal, digits_value-decimal, decimal_nonempty}
-use Rattle.std.specs.List.{list_all}
-use Rattle.std.specs.Char.{is_ascii_digit}
 use Rattle.std.specs.Str.Parse.{digits_value, starts_with_minus}
 use Rattle.std.proofs.lemmas.Str.Parse.{not_in_digits}
 use Rattle.clu_ops.specs.Ends.{number, signal}
