@@ -13,7 +13,7 @@ use crate::texts::{
 use clu_tree::{Op, Value};
 use std::alloc::Global;
 
-/// How an operation ends on its operands.
+/// How an operation on ints, bools, chars, strings or nil ends on operands of its number and kinds.
 ///
 /// Strings are bytes, compared byte by byte, and positions in them count from 1. The quotient and the remainder of x
 /// and y are those of `x = q*y + r` with `0 <= r < |y|`. The cost is linear in the operands.
