@@ -1,0 +1,4 @@
+pub mod Quotients
+pub mod Numerals
+pub mod Inverse
+mod Worked

@@ -1,0 +1,4 @@
+pub mod Ends
+pub mod Ints
+pub mod Texts
+pub mod Ops

@@ -1,0 +1,4 @@
+use std::alloc::AllocError;
+
+/// Memory ran out.
+pub type Memory = AllocError;
