@@ -5,8 +5,8 @@ ghost use Rattle.obj_region.specs.Store.{IsStore};
 use crate::fault::{Memory, RegionFault};
 use crate::object::Obj;
 use crate::objects::{
-    array, grow_high, grow_low, lose_high, lose_low, may_grow_high, may_grow_low, may_lose_high,
-    may_lose_low, set_field, set_item,
+    grow_high, grow_low, has_index, is_empty, item, lose_high, lose_low, may_grow_high,
+    may_grow_low, may_lose_high, may_lose_low, set_field, set_item,
 };
 use crate::store::Store;
 use clu_tree::{Addr, Value};
@@ -84,16 +84,15 @@ impl Store for Region {
     }
 
     fn fetch(&self, alloc: Global, at: Addr, place: i64) -> Result<Value, RegionFault> {
-        let array = array(&self.objects, at);
-        if !array.has_index(place) {
+        if !has_index(&self.objects, at, place) {
             return Err(RegionFault::Bounds);
         }
-        let item = array.item(place).copy(alloc);
-        item.map_err(|_| RegionFault::Memory)
+        let item = item(&self.objects, at, place).copy(alloc)?;
+        Ok(item)
     }
 
     fn store(&mut self, at: Addr, place: i64, value: Value) -> Result<(), RegionFault> {
-        if !array(&self.objects, at).has_index(place) {
+        if !has_index(&self.objects, at, place) {
             return Err(RegionFault::Bounds);
         }
         set_item(&mut self.objects, at, place, value);
@@ -107,7 +106,7 @@ impl Store for Region {
         if self.total == MAX_CELLS {
             return Err(RegionFault::Full);
         }
-        grow_high(&mut self.objects, at, value).map_err(|_| RegionFault::Memory)?;
+        grow_high(&mut self.objects, at, value)?;
         self.total += 1;
         Ok(())
     }
@@ -119,13 +118,13 @@ impl Store for Region {
         if self.total == MAX_CELLS {
             return Err(RegionFault::Full);
         }
-        grow_low(&mut self.objects, at, value).map_err(|_| RegionFault::Memory)?;
+        grow_low(&mut self.objects, at, value)?;
         self.total += 1;
         Ok(())
     }
 
     fn rem_high(&mut self, at: Addr) -> Result<Value, RegionFault> {
-        if array(&self.objects, at).is_empty_array() {
+        if is_empty(&self.objects, at) {
             return Err(RegionFault::Bounds);
         }
         if !may_lose_high(&self.objects, at) {
@@ -136,7 +135,7 @@ impl Store for Region {
     }
 
     fn rem_low(&mut self, at: Addr) -> Result<Value, RegionFault> {
-        if array(&self.objects, at).is_empty_array() {
+        if is_empty(&self.objects, at) {
             return Err(RegionFault::Bounds);
         }
         if !may_lose_low(&self.objects, at) {
