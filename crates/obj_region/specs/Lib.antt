@@ -1,0 +1,4 @@
+pub mod Answers
+pub mod Ranges
+pub mod Scratch
+pub mod Store
