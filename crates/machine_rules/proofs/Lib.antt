@@ -1,3 +1,6 @@
 pub mod Picked
+pub mod Runs
 pub mod Sound
 pub mod Worked
+pub mod WorkedLoops
+pub mod WorkedStatements

@@ -161,13 +161,14 @@ own_line (sf.Region _ _ line) = Some line
 own_line (sf.Except _ _) = None
 own_line (sf.Resignal _ _) = None
 
+-- the line last begun was this one, and now is that of what begins, if it has one
+abbrev pub line_begun : ℕ → Option ℕ → ℕ
+line_begun was None = was
+line_begun was (Some line) = line
+
 -- the line last begun, once this statement began
 abbrev pub line_of : ℕ → sf.Stmt-F Stmt Arm Handlers TagArm When → ℕ
-line_of was s = last_begun was (own_line s)
-  where
-    last_begun : ℕ → Option ℕ → ℕ
-    last_begun was None = was
-    last_begun was (Some line) = line
+line_of was s = line_begun was (own_line s)
 
 -- the body comes first
 abbrev pub puts : World → Frame → List Frame → List Item → List Value → List Stmt → Option Next
