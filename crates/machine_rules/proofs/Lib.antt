@@ -3,4 +3,5 @@ pub mod Runs
 pub mod Sound
 pub mod Worked
 pub mod WorkedLoops
+pub mod WorkedRounds
 pub mod WorkedStatements

@@ -16,7 +16,7 @@ use Rattle.clu_tree.specs.declared.tree.Expr.TheVariants as e
 use Rattle.clu_tree.specs.declared.tree.Stmt.{Stmt, out-Stmt}
 use Rattle.clu_tree.specs.declared.tree.Stmt.TheVariants as s
 use Rattle.clu_tree.specs.declared.tree.Handlers.{Handlers, roll-Handlers, out-roll-Handlers}
-use Rattle.clu_tree.specs.declared.tree.When.{roll-When, out-roll-When}
+use Rattle.clu_tree.specs.declared.tree.When.{roll-When}
 use Rattle.clu_tree.specs.declared.program.Routine.{Routine}
 use Rattle.obj_region.specs.declared.object.Obj.TheVariants as obj
 use Rattle.machine_rules.specs.declared.item.Catch.TheVariants.{Handle}

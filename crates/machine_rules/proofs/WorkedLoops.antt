@@ -1,11 +1,10 @@
 -- The steps of loops and of changing objects, computed before any work that stands behind them.
-use Rattle.std.proofs.Common.{◌≡◌, ℕ, pos, Bool, true, false, List, [], ◌∷◌, codes, Option, Some, None, refl, arith}
+use Rattle.std.proofs.Common.{◌≡◌, ℕ, pos, List, [], ◌∷◌, codes, Option, Some, refl, arith}
 use Rattle.std.specs.Fmt.{decimal}
 use Rattle.std.proofs.lemmas.Fmt.{decimal-digits_of}
 use Rattle.clu_tree.specs.declared.value.Addr.{Addr}
 use Rattle.clu_tree.specs.declared.value.Value.{Value}
 use Rattle.clu_tree.specs.declared.value.Value.TheVariants as value
-use Rattle.clu_tree.specs.declared.shape.Shape.{Shape}
 use Rattle.clu_tree.specs.declared.shape.Shape.TheVariants as shape
 use Rattle.clu_tree.specs.declared.op.Op.TheVariants as op
 use Rattle.clu_tree.specs.declared.tree.Meant.TheVariants as m
@@ -18,7 +17,6 @@ use Rattle.clu_tree.specs.declared.tree.FieldInit.{roll-FieldInit, out-roll-Fiel
 use Rattle.clu_tree.specs.declared.tree.Stmt.{Stmt, roll-Stmt, out-roll-Stmt}
 use Rattle.clu_tree.specs.declared.tree.Stmt.TheOpen as sf
 use Rattle.clu_tree.specs.declared.tree.Stmt.TheVariants as s
-use Rattle.clu_tree.specs.declared.program.Routine.{Routine}
 use Rattle.obj_region.specs.declared.object.Obj.{Obj}
 use Rattle.obj_region.specs.declared.object.Obj.TheVariants as obj
 use Rattle.machine_rules.specs.declared.item.Item.{Item}
@@ -27,7 +25,7 @@ use Rattle.machine_rules.specs.declared.frame.Var.{Var}
 use Rattle.machine_rules.specs.declared.frame.Frame.{Frame}
 use Rattle.machine_rules.specs.declared.act.Act.{Act}
 use Rattle.machine_rules.specs.declared.act.Act.TheVariants as act
-use Rattle.machine_rules.specs.Row.{World, bare_world, start}
+use Rattle.machine_rules.specs.Row.{World, bare_world}
 use Rattle.machine_rules.proofs.Runs.{Ran, run, run_on}
 
 ruleset exprs = (e.outs-Literal, e.outs-Name, e.outs-Binary, e.outs-Call, e.outs-Op, e.outs-Record, e.outs-Up, e.outs-Down, e.outs-Field, e.outs-Index, out-roll-FieldInit)

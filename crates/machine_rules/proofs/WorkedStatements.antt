@@ -11,12 +11,10 @@ use Rattle.clu_tree.specs.declared.shape.Named.{Named, roll-Named, out-roll-Name
 use Rattle.clu_tree.specs.declared.op.Op.TheVariants as op
 use Rattle.clu_tree.specs.declared.tree.Meant.TheVariants as m
 use Rattle.clu_tree.specs.declared.tree.Infix.TheVariants as fix
-use Rattle.clu_tree.specs.declared.tree.Iter.TheVariants as iter
-use Rattle.clu_tree.specs.declared.tree.Target.TheVariants as target
 use Rattle.clu_tree.specs.declared.tree.Remote.TheVariants as remote
 use Rattle.clu_tree.specs.declared.tree.Expr.{Expr}
 use Rattle.clu_tree.specs.declared.tree.Expr.TheVariants as e
-use Rattle.clu_tree.specs.declared.tree.FieldInit.{roll-FieldInit, out-roll-FieldInit}
+use Rattle.clu_tree.specs.declared.tree.FieldInit.{out-roll-FieldInit}
 use Rattle.clu_tree.specs.declared.tree.Stmt.{Stmt}
 use Rattle.clu_tree.specs.declared.tree.Stmt.TheVariants as s
 use Rattle.clu_tree.specs.declared.tree.Arm.{roll-Arm, out-roll-Arm}

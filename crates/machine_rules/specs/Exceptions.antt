@@ -8,7 +8,7 @@ use Rattle.clu_tree.specs.declared.value.Value.TheVariants as value
 use Rattle.clu_tree.specs.declared.value.Sig.{Sig}
 use Rattle.clu_tree.specs.declared.shape.Named.{Named, out-Named}
 use Rattle.clu_tree.specs.declared.tree.Stmt.{Stmt}
-use Rattle.clu_tree.specs.declared.tree.Handlers.{Handlers, out-Handlers}
+use Rattle.clu_tree.specs.declared.tree.Handlers.{out-Handlers}
 use Rattle.clu_tree.specs.declared.tree.When.{When, out-When}
 use Rattle.machine_rules.specs.declared.item.Catch.{Catch}
 use Rattle.machine_rules.specs.declared.item.Catch.TheVariants.{Handle, Pass}
