@@ -1,3 +1,4 @@
+pub mod Locks
 pub mod Picked
 pub mod Runs
 pub mod Sound

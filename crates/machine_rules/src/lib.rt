@@ -12,7 +12,7 @@ mod status;
 pub use act::{Act, RemoteAsk, StepEnd};
 pub use frame::{Frame, Var};
 pub use item::{Catch, Item};
-pub use law::{never_stuck, picking_law};
+pub use law::{locks_kept, never_stuck, picking_law};
 pub use obj_region::{Obj, Values};
 pub use stack::Stack;
 pub use status::Status;
