@@ -1,2 +1,4 @@
-mod Worked
+pub mod Quotients
 pub mod Numerals
+pub mod Inverse
+mod Worked

@@ -1,5 +1,5 @@
 -- The operations on ints and chars.
-use Rattle.std.specs.Prelude.{ℕ, ◌^◌, ℤ, pos, negsuc, zero, neg_ℤ, Bool, true, false, nat_lt, nat_le, if◌then◌else◌, List, [], ◌∷◌, drop, codes}
+use Rattle.std.specs.Prelude.{◌≡◌, ℕ, ◌^◌, ℤ, pos, negsuc, zero, neg_ℤ, ◌+ℤ◌, ◌*ℤ◌, ◌≤ℤ◌, ◌<ℤ◌, unsigned_abs, Bool, true, false, nat_lt, nat_le, if◌then◌else◌, List, [], ◌∷◌, drop, codes}
 use Rattle.std.specs.Int.{int_div_euclid, int_rem_euclid}
 use Rattle.std.specs.List.{list_all}
 use Rattle.std.specs.Char.{is_ascii_digit}
@@ -19,6 +19,12 @@ ranged z = if is_int z then number z else signal (codes "overflow")
 abbrev pub is_zero : ℤ → Bool
 is_zero (pos zero) = true
 is_zero z = false
+
+-- x is q times y and r more, where r isn't negative and is below |y|
+pub record IsDivision (x y q r : ℤ) : Type 0 where
+  pub sum : q *ℤ y +ℤ r ≡ x
+  pub least : pos 0 ≤ℤ r
+  pub below : r <ℤ pos (unsigned_abs y)
 
 -- the quotient q of x = q*y + r with 0 <= r < |y|
 abbrev pub quotient : ℤ → ℤ → OpEnd
