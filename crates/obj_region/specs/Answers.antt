@@ -1,5 +1,5 @@
 -- A store as contracts see it, and when a call on it is refused.
-use Rattle.std.specs.Prelude.{◌≡◌, ℕ, ℤ, Bool, true, false, not, if◌then◌else◌, nat_lt, nat_eq, List, [], length, Option, Some, None, is_none, Result, Ok, Err}
+use Rattle.std.specs.Prelude.{ℕ, ℤ, Bool, false, not, if◌then◌else◌, nat_lt, nat_eq, [], length, Option, Some, None, is_none, Result, Ok, Err}
 use Rattle.clu_tree.specs.declared.value.Value.{Value}
 use Rattle.obj_region.specs.declared.object.Obj.{Obj}
 use Rattle.obj_region.specs.declared.fault.RegionFault.{RegionFault}

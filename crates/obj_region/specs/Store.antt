@@ -1,5 +1,5 @@
 -- The objects of a node by address, and what they become.
-use Rattle.std.specs.Prelude.{◌≡◌, ◌≤◌, ◌<◌, ℕ, ◌+◌, ◌-◌, ◌^◌, ℤ, pos, negsuc, ◌+ℤ◌, ◌-ℤ◌, Bool, true, false, ◌&&◌, nat_le, nat_lt, int_le, unsigned_abs, List, [], ◌∷◌, ◌++◌, length, take, drop, All, Option, Some, None, IsSome, slice_get, slice_set}
+use Rattle.std.specs.Prelude.{◌≡◌, ◌≤◌, ℕ, ◌+◌, ◌-◌, ◌^◌, ℤ, pos, negsuc, ◌+ℤ◌, ◌-ℤ◌, Bool, true, false, ◌&&◌, nat_le, nat_lt, int_le, unsigned_abs, List, [], ◌∷◌, ◌++◌, length, take, drop, All, sum_by, Option, Some, slice_get, slice_set}
 use Rattle.clu_tree.specs.declared.value.Value.{Value}
 use Rattle.obj_region.specs.declared.object.Obj.{Obj}
 use Rattle.obj_region.specs.declared.object.Obj.TheVariants as obj
@@ -105,8 +105,7 @@ cells_in _ = 0
 
 -- how many elements and fields there are in all
 abbrev pub cells : Store → ℕ
-cells [] = 0
-cells (object ∷ store) = cells_in object + cells store
+cells store = sum_by cells_in store
 
 -- the store takes one object more, which is this
 abbrev pub has_room : Store → Obj → Bool

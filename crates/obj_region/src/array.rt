@@ -1,6 +1,7 @@
-ghost use Rattle.std.specs.Prelude.{◌≡◌, ◌==◌, ◌<◌, ◌+ℤ◌, ℤ, true, length, List, OnOk, OnErr, Some, slice_get, slice_set};
+ghost use Rattle.std.specs.Prelude.{◌≡◌, ◌==◌, ◌<◌, ◌+ℤ◌, ◌-ℤ◌, ◌&&◌, pos, ℤ, true, length, List, OnOk, OnErr, Some, slice_get, slice_set};
 ghost use Rattle.std.specs.Option.{option_copied};
 ghost use Rattle.clu_tree.specs.declared.value.Value.{Value as Item};
+ghost use Rattle.obj_region.specs.Ranges.{stays_near};
 ghost use Rattle.obj_region.specs.Store.{Array, array_of, as_object, cells_in, fields_of, in_bounds, is_array, is_near, is_ranged, item_at, last_of, place, with_high, with_item, with_low, without_high, without_low};
 
 use crate::object::Obj;
@@ -15,6 +16,20 @@ fn is_near(index: i128) -> bool
     ensures { result ≡ is_near index }
 {
     -FARTHEST <= index && index <= FARTHEST
+}
+
+// The index of the last of so many elements, of which the first has the index `low`, changed by so much.
+fn high(low: i64, count: usize, by: i8) -> i128
+    ensures { result ≡ ((low +ℤ pos count) -ℤ pos 1) +ℤ by }
+{
+    low as i128 + count as i128 - 1 + by as i128
+}
+
+// An index, changed by so much.
+fn moved(index: i64, by: i8) -> i128
+    ensures { result ≡ index +ℤ by }
+{
+    index as i128 + by as i128
 }
 
 impl Obj {
@@ -47,67 +62,21 @@ impl Obj {
     {
         match self {
             Obj::Arr { low, items } => {
-                let high = *low as i128 + items.len() as i128 - 1;
-                *low <= index && index as i128 <= high
+                *low <= index && index as i128 <= high(*low, items.len(), 0)
             }
             _ => unreachable!(),
         }
     }
 
-    // Whether an array with one element more behind the last would be in range.
-    pub(crate) fn may_grow_high(&self) -> bool
+    // Whether an array's low and high, changed by so much, are what they may be.
+    pub(crate) fn stays_near(&self, low_by: i8, high_by: i8) -> bool
         requires { is_array (Some self.now) ≡ true }
-        ensures { (value : Item) → result ≡ is_ranged (with_high (array_of (Some self.now)) value) }
+        ensures { result ≡ stays_near (array_of (Some self.now)) low_by high_by }
     {
         match self {
             Obj::Arr { low, items } => {
-                let low = *low as i128;
-                is_near(low) && is_near(low + items.len() as i128)
-            }
-            _ => unreachable!(),
-        }
-    }
-
-    // Whether an array with one element more before the first would be in range.
-    pub(crate) fn may_grow_low(&self) -> bool
-        requires { is_array (Some self.now) ≡ true }
-        ensures { (value : Item) → result ≡ is_ranged (with_low (array_of (Some self.now)) value) }
-    {
-        match self {
-            Obj::Arr { low, items } => {
-                let low = *low as i128 - 1;
-                is_near(low) && is_near(low + items.len() as i128)
-            }
-            _ => unreachable!(),
-        }
-    }
-
-    // Whether an array without its last element would be in range.
-    pub(crate) fn may_lose_high(&self) -> bool
-        requires array { is_array (Some self.now) ≡ true }
-        requires some { 0 < length (array_of (Some self.now)).items }
-        ensures { result ≡ is_ranged (without_high (array_of (Some self.now))) }
-    {
-        match self {
-            Obj::Arr { low, items } => {
-                let low = *low as i128;
-                is_near(low) && is_near(low + items.len() as i128 - 2)
-            }
-            _ => unreachable!(),
-        }
-    }
-
-    // Whether an array without its first element would be in range.
-    pub(crate) fn may_lose_low(&self) -> bool
-        requires array { is_array (Some self.now) ≡ true }
-        requires some { 0 < length (array_of (Some self.now)).items }
-        ensures { result ≡ is_ranged (without_low (array_of (Some self.now))) }
-    {
-        match self {
-            Obj::Arr { low, items } => {
-                let low = *low as i128 + 1;
-                is_near(low) && is_near(low + items.len() as i128 - 2)
-            }
+                is_near(moved(*low, low_by)) && is_near(high(*low, items.len(), high_by))
+            },
             _ => unreachable!(),
         }
     }

@@ -1,3 +1,5 @@
+ghost use Rattle.std.specs.Prelude.{◌≡◌};
+
 use std::alloc::AllocError;
 use thiserror::Error;
 
@@ -22,4 +24,14 @@ pub enum RegionFault {
     /// Memory ran out.
     #[error("out of memory")]
     Memory,
+}
+
+impl From<AllocError> for RegionFault {
+    ghost use Rattle.obj_region.specs.declared.fault.RegionFault.TheVariants.{Memory};
+
+    ghost from_gives = { λ _ fault. fault ≡ Memory };
+
+    fn from(_: AllocError) -> RegionFault {
+        RegionFault::Memory
+    }
 }

@@ -4,6 +4,7 @@
 mod array;
 mod fault;
 mod object;
+mod objects;
 mod region;
 mod scratch;
 mod store;

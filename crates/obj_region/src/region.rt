@@ -4,6 +4,10 @@ ghost use Rattle.obj_region.specs.Store.{IsStore};
 
 use crate::fault::{Memory, RegionFault};
 use crate::object::Obj;
+use crate::objects::{
+    grow_high, grow_low, has_index, is_empty, item, lose_high, lose_low, may_grow_high,
+    may_grow_low, may_lose_high, may_lose_low, set_field, set_item,
+};
 use crate::store::Store;
 use clu_tree::{Addr, Value};
 use std::alloc::Global;
@@ -75,76 +79,70 @@ impl Store for Region {
     }
 
     fn set_field(&mut self, at: Addr, field: u16, value: Value) -> Result<(), RegionFault> {
-        let obj = &mut self.objects[at.0 as usize];
-        obj.set_field(field, value);
+        set_field(&mut self.objects, at, field, value);
         Ok(())
     }
 
     fn fetch(&self, alloc: Global, at: Addr, place: i64) -> Result<Value, RegionFault> {
-        let obj = &self.objects[at.0 as usize];
-        if !obj.has_index(place) {
+        if !has_index(&self.objects, at, place) {
             return Err(RegionFault::Bounds);
         }
-        obj.item(place).copy(alloc).map_err(|_| RegionFault::Memory)
+        let item = item(&self.objects, at, place).copy(alloc)?;
+        Ok(item)
     }
 
     fn store(&mut self, at: Addr, place: i64, value: Value) -> Result<(), RegionFault> {
-        let obj = &mut self.objects[at.0 as usize];
-        if !obj.has_index(place) {
+        if !has_index(&self.objects, at, place) {
             return Err(RegionFault::Bounds);
         }
-        obj.set_item(place, value);
+        set_item(&mut self.objects, at, place, value);
         Ok(())
     }
 
     fn add_high(&mut self, _alloc: Global, at: Addr, value: Value) -> Result<(), RegionFault> {
-        let obj = &mut self.objects[at.0 as usize];
-        if !obj.may_grow_high() {
+        if !may_grow_high(&self.objects, at) {
             return Err(RegionFault::Range);
         }
         if self.total == MAX_CELLS {
             return Err(RegionFault::Full);
         }
-        obj.grow_high(value).map_err(|_| RegionFault::Memory)?;
+        grow_high(&mut self.objects, at, value)?;
         self.total += 1;
         Ok(())
     }
 
     fn add_low(&mut self, _alloc: Global, at: Addr, value: Value) -> Result<(), RegionFault> {
-        let obj = &mut self.objects[at.0 as usize];
-        if !obj.may_grow_low() {
+        if !may_grow_low(&self.objects, at) {
             return Err(RegionFault::Range);
         }
         if self.total == MAX_CELLS {
             return Err(RegionFault::Full);
         }
-        obj.grow_low(value).map_err(|_| RegionFault::Memory)?;
+        grow_low(&mut self.objects, at, value)?;
         self.total += 1;
         Ok(())
     }
 
     fn rem_high(&mut self, at: Addr) -> Result<Value, RegionFault> {
-        let obj = &mut self.objects[at.0 as usize];
-        if obj.is_empty_array() {
+        if is_empty(&self.objects, at) {
             return Err(RegionFault::Bounds);
         }
-        if !obj.may_lose_high() {
+        if !may_lose_high(&self.objects, at) {
             return Err(RegionFault::Range);
         }
         self.total -= 1;
-        Ok(obj.lose_high())
+        Ok(lose_high(&mut self.objects, at))
     }
 
     fn rem_low(&mut self, at: Addr) -> Result<Value, RegionFault> {
-        let obj = &mut self.objects[at.0 as usize];
-        if obj.is_empty_array() {
+        if is_empty(&self.objects, at) {
             return Err(RegionFault::Bounds);
         }
-        if !obj.may_lose_low() {
+        if !may_lose_low(&self.objects, at) {
             return Err(RegionFault::Range);
         }
         self.total -= 1;
-        Ok(obj.lose_low())
+        Ok(lose_low(&mut self.objects, at))
     }
 
     fn mark(&self) -> u32 {

@@ -1,5 +1,5 @@
-ghost use Rattle.std.specs.Prelude.{◌≡◌, Err, Ok, if◌then◌else◌, nat_lt};
-ghost use Rattle.obj_region.specs.Scratch.{lent, scratch_seen};
+ghost use Rattle.std.specs.Prelude.{◌≡◌, ◌≤◌, length, Err, Ok, if◌then◌else◌, nat_lt};
+ghost use Rattle.obj_region.specs.Store.{IsStore};
 
 use crate::fault::RegionFault;
 use crate::object::Obj;
@@ -14,9 +14,13 @@ use std::alloc::Global;
 pub struct Scratch<'a> {
     region: &'a mut Region,
     mark: u32,
+    ghost store: { IsStore region.now },
+    ghost marked: { mark ≤ length region.now },
 }
 
 impl Region {
+    ghost use Rattle.obj_region.specs.Scratch.{lent, scratch_seen};
+
     /// Puts the region in scratch: its objects are below the mark.
     pub fn scratch(&mut self) -> Scratch<'_>
         ensures { scratch_seen result ≡ lent self.old self.entry.ghost_name }
@@ -27,6 +31,8 @@ impl Region {
 }
 
 impl<'a> Scratch<'a> {
+    ghost use Rattle.obj_region.specs.Scratch.{scratch_seen};
+
     /// Takes out the objects above the mark, so that the region is as it was when the scratch was made. Takes no memory.
     pub fn release(self)
         ensures { self.exit.0.now ≡ (scratch_seen self.entry).below }
@@ -46,6 +52,8 @@ fn refuse_old(at: Addr, mark: u32) -> Result<(), RegionFault>
 }
 
 impl Store for Scratch<'_> {
+    ghost use Rattle.obj_region.specs.Scratch.{scratch_seen};
+
     ghost seen = { scratch_seen };
 
     fn add(&mut self, alloc: Global, obj: Obj) -> Result<Addr, RegionFault> {

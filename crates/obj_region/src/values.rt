@@ -24,15 +24,6 @@ impl Model for Values {
 }
 
 impl Values {
-    /// No values.
-    pub fn new(alloc: Global) -> Values
-        ensures { result ≡ [] }
-    {
-        Values {
-            items: VecDeque::new(alloc),
-        }
-    }
-
     /// The list of these values. Takes no memory.
     pub fn from_vec(values: Vec<Value>) -> Values
         ensures { result ≡ values.items }
@@ -71,7 +62,7 @@ impl Values {
         self.items.get(place)
     }
 
-    /// Puts a value in a place, counted from 0, for the one there.
+    // Puts a value in a place, counted from 0, for the one there.
     pub(crate) fn set(&mut self, place: usize, value: Value)
         requires { place < length self.old }
         ensures { self.new ≡ slice_set self.old place value }
@@ -79,8 +70,8 @@ impl Values {
         self.items[place] = value;
     }
 
-    /// Adds a value behind the last.
-    pub fn push_back(&mut self, value: Value) -> Result<(), AllocError>
+    // Adds a value behind the last.
+    pub(crate) fn push_back(&mut self, value: Value) -> Result<(), AllocError>
         ensures ok { OnOk result (self.new ≡ self.old ++ value ∷ []) }
         ensures err { OnErr result (self.new ≡ self.old) }
     {
@@ -88,8 +79,8 @@ impl Values {
         Ok(())
     }
 
-    /// Adds a value before the first.
-    pub fn push_front(&mut self, value: Value) -> Result<(), AllocError>
+    // Adds a value before the first.
+    pub(crate) fn push_front(&mut self, value: Value) -> Result<(), AllocError>
         ensures ok { OnOk result (self.new ≡ value ∷ self.old) }
         ensures err { OnErr result (self.new ≡ self.old) }
     {
@@ -97,16 +88,16 @@ impl Values {
         Ok(())
     }
 
-    /// Takes out the last value. None where there is none.
-    pub fn pop_back(&mut self) -> Option<Value>
+    // Takes out the last value. None where there is none.
+    pub(crate) fn pop_back(&mut self) -> Option<Value>
         ensures value { result ≡ last_of self.old }
         ensures rest { self.new ≡ take (length self.old - 1) self.old }
     {
         self.items.pop_back()
     }
 
-    /// Takes out the first value. None where there is none.
-    pub fn pop_front(&mut self) -> Option<Value>
+    // Takes out the first value. None where there is none.
+    pub(crate) fn pop_front(&mut self) -> Option<Value>
         ensures value { result ≡ slice_get self.old 0 }
         ensures rest { self.new ≡ drop 1 self.old }
     {
