@@ -3,6 +3,7 @@ pub mod Picked
 pub mod Runs
 pub mod Sound
 pub mod Worked
+pub mod WorkedLimits
 pub mod WorkedLoops
 pub mod WorkedRounds
 pub mod WorkedStatements

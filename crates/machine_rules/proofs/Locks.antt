@@ -52,7 +52,7 @@ use Rattle.machine_rules.specs.Exceptions.{Taken, Lets, Handles, Passes, Landing
 use Rattle.machine_rules.specs.Operands.{on_array, on_bool, on_int, on_ref, on_str, one_at, taking, taking2, taking3, taking_args, taking_last}
 use Rattle.machine_rules.specs.Operations as ops
 use Rattle.machine_rules.specs.Row as row
-use Rattle.machine_rules.specs.Locks.{IsTakenIfFree, KeepsLocks, LocksKept}
+use Rattle.machine_rules.specs.Locks.{IsTakenIfFree, KeepsLocks, KeepsRaised, LocksKept}
 
 -- the step keeps account of these locks, and is taken unless some objects may not change
 abbrev Kept : ℕ → List Addr → Act → List Addr → List Addr → Type 0
@@ -204,12 +204,15 @@ first_below bound at bounds range full = by_old (ltb at bound) (ltb-true at boun
     by_full : (full : Bool) → IsOldBelow bound (first_cause false false false full)
     by_full true = tt
     by_full false = tt
+
     by_range : (range full : Bool) → IsOldBelow bound (first_cause false false range full)
     by_range true full = tt
     by_range false full = by_full full
+
     by_bounds : (bounds range full : Bool) → IsOldBelow bound (first_cause false bounds range full)
     by_bounds true range full = tt
     by_bounds false range full = by_range range full
+
     by_old : (old : Bool) → (old ≡ true → at < bound) → IsOldBelow bound (first_cause old bounds range full)
     by_old true h = omega (arith, h refl)
     by_old false h = by_bounds bounds range full
@@ -543,3 +546,10 @@ locks_kept w frames next is = kept_locks w.bound (held frames) next.act next.lef
 
 pub old_below : (w : World) (frames : List Frame) → IsTakenIfFree w frames
 old_below w frames next is old = kept_below w.bound (held frames) next.act next.left (held next.frames) (subst (Keeps w (held frames)) is (row_keeps w frames)) old
+
+pub raised_kept : (w : World) (s : Sig) (frames : List Frame) → KeepsRaised w s frames
+raised_kept w s frames next is = kept_locks w.bound (held frames) next.act next.left (held next.frames) (subst (Keeps w (held frames)) is (unwind_keeps w (held frames) [] s frames refl))
+
+pub given_kept : (v : Value) (frames : List Frame) → held (row.give v frames) ≡ held frames
+given_kept v [] = refl
+given_kept v (f ∷ fs) = refl

@@ -29,6 +29,7 @@ use Rattle.machine_rules.specs.Row.{World, bare_world}
 use Rattle.machine_rules.proofs.Runs.{Ran, run, run_on}
 
 ruleset exprs = (e.outs-Literal, e.outs-Name, e.outs-Binary, e.outs-Call, e.outs-Op, e.outs-Record, e.outs-Up, e.outs-Down, e.outs-Field, e.outs-Index, out-roll-FieldInit)
+
 ruleset stmts = (s.outs-Declare, s.outs-Assign, s.outs-Call, s.outs-PutLine, s.outs-While, s.outs-For, s.outs-Return, out-roll-Stmt)
 
 abbrev world : World

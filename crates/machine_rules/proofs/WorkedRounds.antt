@@ -1,8 +1,9 @@
 -- Programs whose steps grow with the rounds of their loop: n + 7 steps for n empty rounds, and 11 steps for each round
 -- that calls a routine of a cluster.
-use Rattle.std.proofs.Common.{◌≡◌, ℕ, zero, suc, ◌+◌, ◌*◌, ◌≤◌, ◌<◌, pos, Bool, true, false, ltb, leb, List, [], ◌∷◌, ◌++◌, length, codes, Option, Some, None, refl, sym, ◌∙◌, ap, subst, arith}
+use Rattle.std.proofs.Common.{◌≡◌, ℕ, zero, suc, ◌+◌, ◌*◌, ◌≤◌, ◌<◌, pos, Bool, true, false, ltb, leb, List, [], ◌∷◌, ◌++◌, length, codes, Option, Some, None, refl, sym, ◌∙◌, subst, arith}
 use Rattle.std.proofs.lemmas.Bool.{lt-ltb, ltb-true, le-leb}
 use Rattle.std.proofs.lemmas.List.{length-append}
+use Rattle.std.proofs.lemmas.List.Sums.{fold-append}
 use Rattle.clu_tree.specs.declared.value.Addr.{Addr}
 use Rattle.clu_tree.specs.declared.value.Value.TheVariants as value
 use Rattle.clu_tree.specs.declared.shape.Shape.{Shape}
@@ -203,8 +204,9 @@ grown a = obj.One 1 (value.Ref (at a))
 
 -- a oneof has no elements
 cells_grown : (store : Store) (a : ℕ) → cells (store ++ grown a ∷ []) ≡ cells store
-cells_grown [] a = refl
-cells_grown (o ∷ store) a = ap (λ n. cells_in o + n) (cells_grown store a)
+cells_grown store a =
+    let none : cells store + 0 ≡ cells store = omega arith in
+    fold-append (λ n o. n + cells_in o) 0 store (grown a ∷ []) ∙ none
 
 abbrev vars : ℕ → ℕ → ℕ → List Var
 vars k a j = k_var k ∷ n_var a ∷ counts j ∷ []

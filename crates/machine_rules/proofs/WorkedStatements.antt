@@ -35,6 +35,7 @@ use Rattle.machine_rules.specs.Row.{World, bare_world, entry, start}
 use Rattle.machine_rules.proofs.Runs.{Ran, run, run_on}
 
 ruleset exprs = (e.outs-Literal, e.outs-Name, e.outs-Binary, e.outs-Call, e.outs-Op, e.outs-Record, e.outs-Up, e.outs-Down, e.outs-Now, e.outs-Field, e.outs-Index, out-roll-FieldInit)
+
 ruleset stmts = (s.outs-Declare, s.outs-Assign, s.outs-Remote, s.outs-Call, s.outs-PutLine, s.outs-Fork, s.outs-Return, s.outs-Signal, s.outs-If, s.outs-While, s.outs-For, s.outs-Tagcase, s.outs-Begin, s.outs-Region, s.outs-Except, s.outs-Resignal, out-roll-Arm, out-roll-TagArm, out-roll-Handlers, out-roll-When, out-roll-Named)
 
 -- ---- the world and the frames of these examples
@@ -137,7 +138,7 @@ handler_variable_steps : (work : List Item) → run 10 (world (failing ∷ [])) 
     did (world (failing ∷ [])) (act.Put (codes "no") ∷ []) [] work caught
 handler_variable_steps work =
     let body : run 3 (world (failing ∷ [])) (frame (i.Exec (s.PutLine (local (codes "s")) 2) ∷ work) caught ∷ []) ≡ did (world (failing ∷ [])) (act.Put (codes "no") ∷ []) [] work caught =
-        simp (s.outs-PutLine, e.outs-Name) refl in
+    simp (s.outs-PutLine, e.outs-Name) refl in
     run_on 7 3 _ (world (failing ∷ [])) (frame (i.Exec (s.Except (call (codes "failing") 1) shows_it) ∷ work) [] ∷ []) _ (lands_steps work) body
 
 -- a guard that comes first is dropped in a step: Exec, Exec, Eval, Print, Guard
@@ -247,6 +248,10 @@ wait_steps : (work : List Item) →
     did (with_object (world []) obj.Sem) (act.Wait (at 0) (Some (pos 50)) ∷ []) [] (i.Branch (text (codes "got") ∷ []) [] (Some (text (codes "late") ∷ [])) ∷ work) []
 wait_steps work = simp (exprs, stmts) refl
 
+-- `sleep(20)`: Exec, Eval, Sleep
+sleep_steps : (w : World) (work : List Item) → run 3 w (frame (i.Exec (s.Sleep (int 20) 2) ∷ work) [] ∷ []) ≡ did w (act.Sleep (pos 20) ∷ []) [] work []
+sleep_steps w work = simp (s.outs-Sleep, e.outs-Literal) refl
+
 -- p with this value, which the node gave
 abbrev given : Value → List Item → List Frame
 given v work = record (frame work []) { values = v ∷ [] } ∷ []
@@ -259,6 +264,10 @@ signalled_steps = refl
 woken_steps : run 5 (world []) (given (value.Bool true) (i.Branch (text (codes "got") ∷ []) [] (Some (text (codes "late") ∷ [])) ∷ i.Fall ∷ [])) ≡
     Some (record { world = world []; frames = []; acts = act.Put (codes "got") ∷ act.Ended value.Nil ∷ []; left = [] })
 woken_steps = simp (exprs, stmts) refl
+
+late_steps : run 5 (world []) (given (value.Bool false) (i.Branch (text (codes "got") ∷ []) [] (Some (text (codes "late") ∷ [])) ∷ i.Fall ∷ [])) ≡
+    Some (record { world = world []; frames = []; acts = act.Put (codes "late") ∷ act.Ended value.Nil ∷ []; left = [] })
+late_steps = simp (exprs, stmts) refl
 
 -- ---- processes and remote calls
 
@@ -287,7 +296,7 @@ asked = s.Remote (Some (codes "x")) (remote.Once (codes "add") (int 2 ∷ int 3 
 once_steps : (work : List Item) →
     run 6 (world (add ∷ [])) (frame (i.Exec (s.Declare (codes "x") shape.Int None 2) ∷ i.Exec asked ∷ work) [] ∷ []) ≡
     did (world (add ∷ [])) (act.Once (record { routine = 1; to = pos 2; args = value.Int (pos 2) ∷ value.Int (pos 3) ∷ [] }) ∷ []) []
-        (i.Assign (codes "x") ∷ work) (record { name = codes "x"; shape = shape.Int; value = None } ∷ [])
+    (i.Assign (codes "x") ∷ work) (record { name = codes "x"; shape = shape.Int; value = None } ∷ [])
 once_steps work = simp (exprs, stmts) refl
 
 -- its body: Exec return, Eval, two of Eval, Apply, Return
