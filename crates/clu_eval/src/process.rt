@@ -83,14 +83,16 @@ impl Process {
     }
 }
 
-/// The row of the frames, where they have one.
+/// The row of typed frames, where they have one.
 fn step_row(
     alloc: Global,
     program: &Program,
     time: u64,
     frames: &mut Stack<Frame>,
 ) -> Result<StepEnd, Memory>
-    requires { IsSome (row (bare_world program.now time) frames.old) }
+    requires typed { IsTyped program.now }
+    requires fits { FramesFit program.now frames.old }
+    requires row { IsSome (row (bare_world program.now time) frames.old) }
     ensures { IfOk result (λ end. row (bare_world program.now time) frames.old ≡ Some (record { left = end.left; act = end.act; store = []; frames = frames.new })) }
 {
     let Some(mut frame) = frames.pop() else {

@@ -1,9 +1,12 @@
-ghost use Rattle.std.specs.Prelude.{◌≡◌, ◌∷◌, ◌++◌, [], Some, IfOk, IsSome, OnOk, if◌then◌else◌, int_le, map, pos, slice_get};
+ghost use Rattle.std.specs.Prelude.{◌≡◌, ◌∷◌, ◌++◌, [], List, Some, IfOk, IsSome, OnOk, if◌then◌else◌, int_le, map, pos, slice_get};
 ghost use Rattle.clu_tree.specs.declared.value.Value.TheVariants as value;
 ghost use Rattle.machine_rules.specs.Row as rule;
 ghost use Rattle.machine_rules.specs.declared.act.Act.TheVariants as act;
 ghost use Rattle.machine_rules.specs.declared.item.Item.TheVariants.{Exec};
 ghost use Rattle.machine_rules.specs.Row.{World};
+ghost use Rattle.machine_rules.specs.Typing.{ItemFits, WorkFits};
+ghost use Rattle.clu_tree.specs.Typed.{IsTyped};
+ghost use Rattle.clu_tree.specs.declared.shape.Shape.{Shape};
 
 use clu_tree::copies::copy_stmts;
 use clu_tree::{Addr, Expr, Program, Routine, Stmt, Value};
@@ -39,7 +42,7 @@ fn put_body(work: &mut Stack<Item>, mut body: Items<Stmt>) -> Result<(), AllocEr
     Ok(())
 }
 
-/// The row of an item that was taken off the work of a frame that was taken off the others.
+/// The row of a typed item that was taken off the work of a frame that was taken off the others.
 pub fn row_at(
     alloc: Global,
     program: &Program,
@@ -48,7 +51,9 @@ pub fn row_at(
     mut frame: Frame,
     item: Item,
 ) -> Result<StepEnd, AllocError>
-    requires { IsSome (rule.row_at (rule.bare_world program.now time) frame frames.old frame.work item) }
+    requires typed { IsTyped program.now }
+    requires fits { (ts : List Shape) × ItemFits ts item (λ us. WorkFits us frame.work) }
+    requires row { IsSome (rule.row_at (rule.bare_world program.now time) frame frames.old frame.work item) }
     ensures { IfOk result (λ end. rule.row_at (rule.bare_world program.now time) frame frames.old frame.work item ≡ Some (record { left = end.left; act = end.act; store = []; frames = frames.new })) }
 {
     match item {
@@ -99,7 +104,8 @@ fn fall(
     frames: &mut Stack<Frame>,
     frame: Frame,
 ) -> Result<StepEnd, AllocError>
-    requires { IsSome (rule.fall (rule.bare_world program.now time) (rule.leaves frame.work) frames.old (slice_get program.now.routines frame.routine)) }
+    requires typed { IsTyped program.now }
+    requires row { IsSome (rule.fall (rule.bare_world program.now time) (rule.leaves frame.work) frames.old (slice_get program.now.routines frame.routine)) }
     ensures { IfOk result (λ end. rule.fall (rule.bare_world program.now time) (rule.leaves frame.work) frames.old (slice_get program.now.routines frame.routine) ≡ Some (record { left = end.left; act = end.act; store = []; frames = frames.new })) }
 {
     match program.routines.get(frame.routine as usize) {

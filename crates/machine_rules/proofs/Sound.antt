@@ -1,6 +1,6 @@
 -- Typed frames have a row, and the frames that it leaves are typed.
-use Rattle.std.proofs.Common.{◌≡◌, ℕ, pos, List, [], ◌∷◌, ◌++◌, map, Option, Some, slice_get, if◌then◌else◌, refl, ap, subst}
-use Rattle.std.specs.Prelude.{All, int_le}
+use Rattle.std.proofs.Common.{◌≡◌, ℕ, ℤ, pos, Bool, true, false, List, [], ◌∷◌, ◌++◌, map, Option, Some, slice_get, if◌then◌else◌, refl, ap, subst}
+use Rattle.std.specs.Prelude.{All, ◌≢◌, int_le}
 use Rattle.std.proofs.lemmas.List.Elements.{All-get_or, All-head, All-tail}
 use Rattle.std.proofs.lemmas.Option.{get_or_from_slice_get, slice_get_within}
 use Rattle.clu_tree.specs.Typed.{IsTyped, IsTypedLayer, IsTypedRoutine, IsTypedStmt, LayerHas}
@@ -24,9 +24,8 @@ use Rattle.machine_rules.specs.declared.item.Item.TheVariants as i
 use Rattle.machine_rules.specs.declared.frame.Frame.{Frame}
 use Rattle.machine_rules.specs.declared.act.Act.{Act}
 use Rattle.machine_rules.specs.declared.act.Act.TheVariants as act
-use Rattle.machine_rules.specs.declared.act.Act.TheVariants.{Put, Sleep}
 use Rattle.machine_rules.specs.Row.{Next, World, with, at_line, line_of, leaves, ends, fall, taking, eval, exec, naps, on_int, on_str, gives, row_at, row_of}
-use Rattle.machine_rules.specs.Typing.{HasShape, ValuesHave, result_of, ItemFits, WorkFits, BelowFit, IsSound, IsNeverStuck}
+use Rattle.machine_rules.specs.Typing.{ActFits, HasShape, ValuesHave, result_of, ItemFits, WorkFits, BelowFit, IsSound, IsNeverStuck}
 
 -- what is known of the program, of the first frame's routine and of the frames below
 record Here (w : World) (p : Program) (r : Routine) (f : Frame) (fs : List Frame) : Type 0 where
@@ -39,17 +38,31 @@ record Here (w : World) (p : Program) (r : Routine) (f : Frame) (fs : List Frame
 all_at : {X : Type 0} (P : X → Type 0) (xs : List X) (k : ℕ) (x : X) → All P xs → slice_get xs k ≡ Some x → P x
 all_at P xs k x h e = subst P (get_or_from_slice_get xs k x x e) (All-get_or P xs k x (slice_get_within xs k x e) h)
 
--- the first frame goes on with this work and these values, whatever the act
-went : {w : World} {p : Program} {r : Routine} {f : Frame} {fs : List Frame} → Here w p r f fs → (does : Act) (vs : List Value) (ts : List Shape) (work : List Item) → ValuesHave vs ts → WorkFits ts work → IsSound p (gives w [] does (with f work vs ∷ fs))
-went {r} here does vs ts work hv hw = record { next = _; is = refl; typed = (r, here.at, record { shapes = ts; values = hv; work = hw }, here.below) }
+-- a process with a frame isn't over
+full : (f : Frame) (fs : List Frame) → f ∷ fs ≢ []
+full f fs e = cc
+
+-- the first frame goes on with this work and these values, where the act fits a process that isn't over
+did : {w : World} {p : Program} {r : Routine} {f : Frame} {fs : List Frame} → Here w p r f fs → (does : Act) → ((frames : List Frame) → frames ≢ [] → ActFits does frames) →
+    (vs : List Value) (ts : List Shape) (work : List Item) → ValuesHave vs ts → WorkFits ts work → IsSound p (gives w [] does (with f work vs ∷ fs))
+did {r} {f} {fs} here does fits vs ts work hv hw = record {
+  next = _;
+  is = refl;
+  typed = (r, here.at, record { shapes = ts; values = hv; work = hw }, here.below);
+  act = fits (with f work vs ∷ fs) (full (with f work vs) fs);
+}
+
+-- the first frame goes on with this work and these values
+went : {w : World} {p : Program} {r : Routine} {f : Frame} {fs : List Frame} → Here w p r f fs → (vs : List Value) (ts : List Shape) (work : List Item) → ValuesHave vs ts → WorkFits ts work → IsSound p (gives w [] act.Went (with f work vs ∷ fs))
+went here vs ts work hv hw = did here act.Went (λ frames h. h) vs ts work hv hw
 
 eval_sound : {w : World} {p : Program} {r : Routine} {f : Frame} {fs : List Frame} → Here w p r f fs → (ts : List Shape) (t : Shape) (work : List Item) → ValuesHave f.values ts → WorkFits (t ∷ ts) work → (x : ef.Expr-F Expr FieldInit) → LayerHas x t → IsSound p (eval w f fs work x)
-eval_sound {f} here ts t work hv hw (ef.Literal v line) h = went here act.Went (v ∷ f.values) (t ∷ ts) work (h, hv) hw
+eval_sound {f} here ts t work hv hw (ef.Literal v line) h = went here (v ∷ f.values) (t ∷ ts) work (h, hv) hw
 eval_sound here ts t work hv hw x h = elim h [ ]
 
 exec_sound : {w : World} {p : Program} {r : Routine} {f : Frame} {fs : List Frame} → Here w p r f fs → (work : List Item) → ValuesHave f.values [] → WorkFits [] work → (x : sf.Stmt-F Stmt Arm Handlers TagArm When) → IsTypedLayer x → IsSound p (exec w f fs work x)
-exec_sound {f} here work hv hw (sf.PutLine e line) h = went here act.Went f.values [] (i.Eval e ∷ i.Print ∷ work) hv (shape.Str, h, ([], refl, hw))
-exec_sound {f} here work hv hw (sf.Sleep e line) h = went here act.Went f.values [] (i.Eval e ∷ i.Nap ∷ work) hv (shape.Int, h, ([], refl, hw))
+exec_sound {f} here work hv hw (sf.PutLine e line) h = went here f.values [] (i.Eval e ∷ i.Print ∷ work) hv (shape.Str, h, ([], refl, hw))
+exec_sound {f} here work hv hw (sf.Sleep e line) h = went here f.values [] (i.Eval e ∷ i.Nap ∷ work) hv (shape.Int, h, ([], refl, hw))
 exec_sound here work hv hw x h = elim h [ ]
 
 print_sound : {w : World} {p : Program} {r : Routine} {f : Frame} {fs : List Frame} → Here w p r f fs → (us : List Shape) (work : List Item) (v : Value) (vs : List Value) → HasShape v shape.Str → ValuesHave vs us → WorkFits us work → IsSound p (on_str v (λ text. gives w [] (act.Put text) (with f work vs ∷ fs)))
@@ -57,13 +70,17 @@ print_sound here us work value.Nil vs h hv hw = cc
 print_sound here us work (value.Bool b) vs h hv hw = cc
 print_sound here us work (value.Int n) vs h hv hw = cc
 print_sound here us work (value.Char c) vs h hv hw = cc
-print_sound here us work (value.Str text) vs h hv hw = went here (act.Put text) vs us work hv hw
+print_sound here us work (value.Str text) vs h hv hw = did here (act.Put text) (λ frames h. h) vs us work hv hw
 print_sound here us work (value.Ref at) vs h hv hw = elim h [ ]
+
+nap_fits : (b : Bool) (ms : ℤ) (frames : List Frame) → frames ≢ [] → ActFits (if b then act.Went else act.Sleep ms) frames
+nap_fits true ms frames h = h
+nap_fits false ms frames h = h
 
 nap_sound : {w : World} {p : Program} {r : Routine} {f : Frame} {fs : List Frame} → Here w p r f fs → (us : List Shape) (work : List Item) (v : Value) (vs : List Value) → HasShape v shape.Int → ValuesHave vs us → WorkFits us work → IsSound p (on_int v (naps w (with f work vs ∷ fs)))
 nap_sound here us work value.Nil vs h hv hw = cc
 nap_sound here us work (value.Bool b) vs h hv hw = cc
-nap_sound here us work (value.Int n) vs h hv hw = went here (if int_le n (pos 0) then act.Went else act.Sleep n) vs us work hv hw
+nap_sound here us work (value.Int n) vs h hv hw = did here (if int_le n (pos 0) then act.Went else act.Sleep n) (nap_fits (int_le n (pos 0)) n) vs us work hv hw
 nap_sound here us work (value.Char c) vs h hv hw = cc
 nap_sound here us work (value.Str text) vs h hv hw = cc
 nap_sound here us work (value.Ref at) vs h hv hw = elim h [ ]
@@ -74,10 +91,10 @@ taking_sound t us [] go hv sound = elim hv [ ]
 taking_sound t us (v ∷ vs) go hv sound = sound v vs hv.0 hv.1
 
 ends_sound : (w : World) (p : Program) (r : Routine) (v : Value) (fs : List Frame) (work : List Item) → HasShape v (result_of r.result) → BelowFit p r fs → IsSound p (ends w (leaves work) v fs)
-ends_sound w p r v [] work h below = record { next = _; is = refl; typed = tt }
+ends_sound w p r v [] work h below = record { next = _; is = refl; typed = tt; act = refl }
 ends_sound w p r v (f ∷ fs) work h below =
     let old = below.2 in
-    record { next = _; is = refl; typed = (below.0, below.1, record { shapes = result_of r.result ∷ old.shapes; values = (h, old.values); work = old.work }, below.3) }
+    record { next = _; is = refl; typed = (below.0, below.1, record { shapes = result_of r.result ∷ old.shapes; values = (h, old.values); work = old.work }, below.3); act = full _ fs }
 
 fall_sound : {w : World} {p : Program} {r : Routine} {f : Frame} {fs : List Frame} → Here w p r f fs → (work : List Item) → IsSound p (fall w (leaves work) fs (slice_get w.program.routines f.routine))
 fall_sound {w} {p} {r} {f} {fs} here work =

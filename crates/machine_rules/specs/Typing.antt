@@ -1,5 +1,5 @@
 -- When the values, the work and the frames of a process of a typed program are typed.
-use Rattle.std.specs.Prelude.{◌≡◌, ℕ, List, [], ◌∷◌, ◌++◌, Option, Some, None, slice_get}
+use Rattle.std.specs.Prelude.{◌≡◌, ◌≢◌, ℕ, List, [], ◌∷◌, ◌++◌, Option, Some, None, slice_get}
 use Rattle.clu_tree.specs.Typed.{ExprHas, IsTypedStmt, LiteralHas}
 use Rattle.clu_tree.specs.declared.value.Value.{Value}
 use Rattle.clu_tree.specs.declared.shape.Shape.{Shape}
@@ -10,6 +10,8 @@ use Rattle.clu_tree.specs.declared.program.Program.{Program}
 use Rattle.machine_rules.specs.declared.item.Item.{Item}
 use Rattle.machine_rules.specs.declared.item.Item.TheVariants as i
 use Rattle.machine_rules.specs.declared.frame.Frame.{Frame}
+use Rattle.machine_rules.specs.declared.act.Act.{Act}
+use Rattle.machine_rules.specs.declared.act.Act.TheVariants as act
 use Rattle.machine_rules.specs.Row.{World, Next, start, row}
 
 -- the value has the type; there are no objects yet
@@ -67,11 +69,20 @@ abbrev pub FramesFit : Program → List Frame → Type 0
 FramesFit p [] = Unit {0}
 FramesFit p (f ∷ fs) = (r : Routine) × (slice_get p.routines f.routine ≡ Some r) × FrameFits [] f × BelowFit p r fs
 
--- There is a row, and the frames that it leaves are typed.
+-- the act is one of this part of the language, and the process is over exactly where it ended
+abbrev pub ActFits : Act → List Frame → Type 0
+ActFits act.Went frames = frames ≢ []
+ActFits (act.Put text) frames = frames ≢ []
+ActFits (act.Sleep ms) frames = frames ≢ []
+ActFits (act.Ended v) frames = frames ≡ []
+ActFits _ frames = ⊥
+
+-- There is a row, the frames that it leaves are typed, and its act fits them.
 pub record IsSound (p : Program) (row : Option Next) : Type 0 where
   pub next : Next
   pub is : row ≡ Some next
   pub typed : FramesFit p next.frames
+  pub act : ActFits next.act next.frames
 
 -- Each process begins typed; while it is typed and not over it has a row, and what the row leaves is typed.
 pub record IsNeverStuck (p : Program) : Type 0 where

@@ -36,7 +36,7 @@ pub enum Act {
     Ended(Value),
     /// The process is over, of this exception.
     Died(Sig),
-    /// The step would change an object that it may not change, and wasn't taken.
+    /// The step would change an object that it may not change, and wasn't taken. The process is given up.
     Old,
 }
 

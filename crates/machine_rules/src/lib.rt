@@ -6,15 +6,14 @@ mod act;
 mod frame;
 mod item;
 mod law;
-mod obj;
 mod stack;
 mod status;
 
 pub use act::{Act, RemoteAsk, StepEnd};
 pub use frame::{Frame, Var};
 pub use item::{Catch, Item};
-pub use law::{never_stuck, picking_law};
-pub use obj::Obj;
+pub use law::{locks_kept, never_stuck, picking_law};
+pub use obj_region::{Obj, Values};
 pub use stack::Stack;
 pub use status::Status;
 

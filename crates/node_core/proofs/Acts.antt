@@ -1,27 +1,14 @@
 -- What the rows tell of their acts, and one step more of a turn.
-use Rattle.std.proofs.Common.{◌≡◌, ◌≢◌, ◌<◌, inl, inr, ℕ, ℤ, pos, zero, suc, ◌+◌, Bool, true, false, if◌then◌else◌, int_le, List, [], ◌∷◌, Option, Some, None, slice_get, refl, sym, ◌∙◌, ap, subst, arith, append-nil, add-one}
-use Rattle.clu_tree.specs.declared.value.Value.{Value}
-use Rattle.clu_tree.specs.declared.value.Value.TheVariants as value
+use Rattle.std.proofs.Common.{◌≡◌, ◌≢◌, ◌<◌, inl, inr, ℕ, zero, suc, ◌+◌, Bool, true, false, List, [], ◌∷◌, Option, Some, None, refl, sym, ◌∙◌, ap, subst, arith, append-nil, add-one}
 use Rattle.clu_tree.specs.declared.value.Addr.{Addr}
-use Rattle.clu_tree.specs.declared.shape.Shape.{Shape}
-use Rattle.clu_tree.specs.declared.tree.Expr.{Expr, out-Expr}
-use Rattle.clu_tree.specs.declared.tree.Expr.TheOpen as ef
-use Rattle.clu_tree.specs.declared.tree.FieldInit.{FieldInit}
-use Rattle.clu_tree.specs.declared.tree.Stmt.{Stmt, out-Stmt}
-use Rattle.clu_tree.specs.declared.tree.Stmt.TheOpen as sf
-use Rattle.clu_tree.specs.declared.tree.Arm.{Arm}
-use Rattle.clu_tree.specs.declared.tree.TagArm.{TagArm}
-use Rattle.clu_tree.specs.declared.tree.When.{When}
-use Rattle.clu_tree.specs.declared.tree.Handlers.{Handlers}
-use Rattle.clu_tree.specs.declared.program.Routine.{Routine}
+use Rattle.clu_tree.specs.Typed.{IsTyped}
 use Rattle.clu_tree.specs.declared.program.Program.{Program}
-use Rattle.machine_rules.specs.declared.item.Item.{Item}
-use Rattle.machine_rules.specs.declared.item.Item.TheVariants as i
 use Rattle.machine_rules.specs.declared.frame.Frame.{Frame}
 use Rattle.machine_rules.specs.declared.act.Act.{Act}
 use Rattle.machine_rules.specs.declared.act.Act.TheVariants as act
-use Rattle.machine_rules.specs.Row.{Next, World, at_line, bare_world, ends, eval, exec, fall, fall_at, leaves, line_of, row, row_at, row_of}
-use Rattle.machine_rules.specs.Typing.{FramesFit}
+use Rattle.machine_rules.specs.Row.{Next, bare_world, row}
+use Rattle.machine_rules.specs.Typing.{ActFits, FramesFit}
+use Rattle.machine_rules.proofs.Sound.{never_stuck}
 use Rattle.world_types.specs.declared.effects.Effects.{Effects}
 use Rattle.world_rules.specs.Plain.{and_then, behind, join, nothing}
 use Rattle.world_rules.specs.Node.{Live, NodeState, acted, ready, step_of, steps}
@@ -36,76 +23,18 @@ pub by_test : {P : Type 0} (b : Bool) → (b ≡ true → P) → (b ≡ false �
 by_test true h k = h refl
 by_test false h k = k refl
 
--- The act is one of this part of the language, and the process is over exactly where it ended.
-abbrev pub ActFits : Act → List Frame → Type 0
-ActFits act.Went frames = frames ≢ []
-ActFits (act.Put text) frames = frames ≢ []
-ActFits (act.Sleep ms) frames = frames ≢ []
-ActFits (act.Ended v) frames = frames ≡ []
-ActFits _ frames = ⊥
-
 abbrev pub NextFits : Next → Type 0
 NextFits next = ActFits next.act next.frames
 
 some_is : {A : Type 0} (a b : A) → Some a ≡ Some b → a ≡ b
 some_is a b h = cc
 
-same_next : (next next' : Next) → Some next ≡ Some next' → NextFits next → NextFits next'
-same_next next next' h fits = subst NextFits (some_is next next' h) fits
-
-full : (f : Frame) (fs : List Frame) → f ∷ fs ≢ []
-full f fs e = cc
-
-eval_fits : (w : World) (f : Frame) (fs : List Frame) (work : List Item) (e : ef.Expr-F Expr FieldInit) (next : Next) → eval w f fs work e ≡ Some next → NextFits next
-eval_fits w f fs work (ef.Literal v line) next h = same_next _ next h (full _ fs)
-eval_fits w f fs work e next h = cc
-
-exec_fits : (w : World) (f : Frame) (fs : List Frame) (work : List Item) (s : sf.Stmt-F Stmt Arm Handlers TagArm When) (next : Next) → exec w f fs work s ≡ Some next → NextFits next
-exec_fits w f fs work (sf.PutLine e line) next h = same_next _ next h (full _ fs)
-exec_fits w f fs work (sf.Sleep e line) next h = same_next _ next h (full _ fs)
-exec_fits w f fs work s next h = cc
-
-ends_fits : (w : World) (left : List Addr) (v : Value) (fs : List Frame) (next : Next) → ends w left v fs ≡ Some next → NextFits next
-ends_fits w left v [] next h = same_next _ next h refl
-ends_fits w left v (f ∷ fs) next h = same_next _ next h (full _ fs)
-
-fall_at_fits : (w : World) (left : List Addr) (fs : List Frame) (t : Option Shape) (next : Next) → fall_at w left fs t ≡ Some next → NextFits next
-fall_at_fits w left fs None next h = ends_fits w left value.Nil fs next h
-fall_at_fits w left fs (Some t) next h = cc
-
-fall_fits : (w : World) (left : List Addr) (fs : List Frame) (r : Option Routine) (next : Next) → fall w left fs r ≡ Some next → NextFits next
-fall_fits w left fs None next h = cc
-fall_fits w left fs (Some r) next h = fall_at_fits w left fs r.result next h
-
-print_fits : (w : World) (f : Frame) (fs : List Frame) (work : List Item) (values : List Value) (next : Next) → row_at w (record f { values = values }) fs work i.Print ≡ Some next → NextFits next
-print_fits w f fs work [] next h = cc
-print_fits w f fs work (value.Str text ∷ values) next h = same_next _ next h (full _ fs)
-print_fits w f fs work (v ∷ values) next h = cc
-
-nap_fits : (ms : ℤ) (frames : List Frame) → frames ≢ [] → ActFits (if int_le ms (pos 0) then act.Went else act.Sleep ms) frames
-nap_fits ms frames h = by_test (int_le ms (pos 0)) (λ e. rw e h) (λ e. rw e h)
-
-slept_fits : (w : World) (f : Frame) (fs : List Frame) (work : List Item) (values : List Value) (next : Next) → row_at w (record f { values = values }) fs work i.Nap ≡ Some next → NextFits next
-slept_fits w f fs work [] next h = cc
-slept_fits w f fs work (value.Int ms ∷ values) next h = same_next _ next h (nap_fits ms _ (full _ fs))
-slept_fits w f fs work (v ∷ values) next h = cc
-
-row_at_fits : (w : World) (f : Frame) (fs : List Frame) (work : List Item) (item : Item) (next : Next) → row_at w f fs work item ≡ Some next → NextFits next
-row_at_fits w f fs work (i.Eval e) next h = eval_fits w f fs work (out-Expr e) next h
-row_at_fits w f fs work i.Fall next h = fall_fits w (leaves work) fs (slice_get w.program.routines f.routine) next h
-row_at_fits w f fs work (i.Exec s) next h = exec_fits w (at_line f (line_of f.line (out-Stmt s))) fs work (out-Stmt s) next h
-row_at_fits w f fs work i.Print next h = print_fits w f fs work f.values next h
-row_at_fits w f fs work i.Nap next h = slept_fits w f fs work f.values next h
-row_at_fits w f fs work item next h = cc
-
-row_of_fits : (w : World) (f : Frame) (fs : List Frame) (work : List Item) (next : Next) → row_of w f fs work ≡ Some next → NextFits next
-row_of_fits w f fs [] next h = cc
-row_of_fits w f fs (item ∷ work) next h = row_at_fits w f fs work item next h
-
--- each row has an act of this part of the language, and frames but where it ended
-pub row_fits : (w : World) (frames : List Frame) (next : Next) → row w frames ≡ Some next → NextFits next
-row_fits w [] next h = cc
-row_fits w (f ∷ fs) next h = row_of_fits w f fs f.work next h
+-- what a step of typed frames gives has an act of this part of the language, and frames but where it ended
+pub row_fits : (program : Program) → IsTyped program → (t : ℕ) (frames : List Frame) → FramesFit program frames → (next : Next) → row (bare_world program t) frames ≡ Some next → NextFits next
+row_fits program good t [] fits next h = cc
+row_fits program good t (f ∷ fs) fits next h =
+    let sound = (never_stuck program good).goes_on (bare_world program t) f fs refl fits in
+    subst NextFits (some_is sound.next next (sym sound.is ∙ h)) sound.act
 
 pub fits_noted : (does : Act) (frames : List Frame) → ActFits does frames → IsNoted does
 fits_noted act.Went frames h = tt
@@ -126,10 +55,10 @@ acted_fits n t was frames (act.Ended v) h = refl
 acted_fits n t was frames does h = elim h [ ]
 
 -- a step of the process that is kept
-pub step_fits : (program : Program) (n t : ℕ) (frames : List Frame) (next : Next) → row (bare_world program t) frames ≡ Some next →
+pub step_fits : (program : Program) → IsTyped program → (n t : ℕ) (frames : List Frame) → FramesFit program frames → (next : Next) → row (bare_world program t) frames ≡ Some next →
     step_of program 1 (running n frames t) ≡ Some (state_of n (left_of (after_of t next.act) next.frames) 1 t, noted n next.act)
-step_fits program n t frames next h =
-    rw h (acted_fits n t frames next.frames next.act (row_fits (bare_world program t) frames next h))
+step_fits program good n t frames fits next h =
+    rw h (acted_fits n t frames next.frames next.act (row_fits program good t frames fits next h))
 
 -- ---- one step more of a turn
 
@@ -169,16 +98,17 @@ steps_more program p (suc k) s s' s'' x y h one =
 abbrev pub Took : Program → ℕ → ℕ → ℕ → List Frame → List Live → Effects → Type 0
 Took program n t k was left x = steps program 1 k (running n was t) ≡ Some (state_of n left 1 t, x)
 
-pub took_more : (program : Program) (n t k : ℕ) (was frames g : List Frame) (left : List Addr) (does : Act) (x x' : Effects) →
+pub took_more : (program : Program) → IsTyped program → (n t k : ℕ) (was frames : List Frame) → FramesFit program frames → (g : List Frame) (left : List Addr) (does : Act) (x x' : Effects) →
     Took program n t k was (ready 1 frames ∷ []) x → row (bare_world program t) frames ≡ Some (record { left = left; act = does; store = []; frames = g }) →
     x' ≡ join x (noted n does) → Took program n t (k + 1) was (left_of (after_of t does) g) x'
-took_more program n t k was frames g left does x x' h one noted_is =
+took_more program good n t k was frames fits g left does x x' h one noted_is =
     rw (add-one, noted_is) (steps_more program 1 k (running n was t) (running n frames t) (state_of n (left_of (after_of t does) g) 1 t) x (noted n does) h
-    (step_fits program n t frames (record { left = left; act = does; store = []; frames = g }) one))
+    (step_fits program good n t frames fits (record { left = left; act = does; store = []; frames = g }) one))
 
 -- the process goes on, and has frames
-pub on_fits : (w : World) (frames g : List Frame) (left : List Addr) (does : Act) → row w frames ≡ Some (record { left = left; act = does; store = []; frames = g }) → ActFits does g
-on_fits w frames g left does h = row_fits w frames (record { left = left; act = does; store = []; frames = g }) h
+pub on_fits : (program : Program) → IsTyped program → (t : ℕ) (frames : List Frame) → FramesFit program frames → (g : List Frame) (left : List Addr) (does : Act) →
+    row (bare_world program t) frames ≡ Some (record { left = left; act = does; store = []; frames = g }) → ActFits does g
+on_fits program good t frames fits g left does h = row_fits program good t frames fits (record { left = left; act = does; store = []; frames = g }) h
 
 ready_full : (t : ℕ) (does : Act) (g : List Frame) → ActFits does g → after_of t does ≡ after.Ready → g ≢ []
 ready_full t act.Went g h e = h

@@ -8,18 +8,10 @@ use Rattle.clu_tree.specs.declared.program.NodePart.{NodePart}
 use Rattle.clu_tree.specs.declared.program.NodePart.TheVariants.{Export, Start}
 use Rattle.clu_tree.specs.declared.program.NodeDecl.{NodeDecl}
 use Rattle.clu_tree.specs.declared.program.Program.{Program}
-use Rattle.clu_tree.specs.declared.tree.Stmt.{Stmt, out-Stmt}
-use Rattle.clu_tree.specs.declared.tree.Stmt.TheOpen as sf
-use Rattle.clu_tree.specs.declared.tree.Arm.{Arm}
-use Rattle.clu_tree.specs.declared.tree.TagArm.{TagArm}
-use Rattle.clu_tree.specs.declared.tree.When.{When}
-use Rattle.clu_tree.specs.declared.tree.Handlers.{Handlers}
 use Rattle.machine_rules.specs.declared.frame.Frame.{Frame}
-use Rattle.machine_rules.specs.declared.item.Item.{Item}
-use Rattle.machine_rules.specs.declared.item.Item.TheVariants as item
 use Rattle.machine_rules.specs.declared.act.Act.{Act}
 use Rattle.machine_rules.specs.declared.act.Act.TheVariants as act
-use Rattle.machine_rules.specs.Row.{bare_world, row, start}
+use Rattle.machine_rules.specs.Row.{bare_world, row, stands, start}
 use Rattle.machine_rules.specs.Picking as turns
 use Rattle.machine_rules.specs.Picking.{is_ready}
 use Rattle.machine_rules.specs.declared.status.Status.{Status}
@@ -171,35 +163,6 @@ abbrev pub turn : Program → NodeState → ℕ → ℕ → Option (NodeState ×
 turn program s k t = if can_turn s k t then and_then (picks s) (λ p. steps program p k (picked_at p t s)) else None
 
 -- ---- the rules of a program's nodes
-
--- the line of a statement; one that stands round another has none of its own
-abbrev pub own_line : sf.Stmt-F Stmt Arm Handlers TagArm When → Option ℕ
-own_line (sf.Declare _ _ _ line) = Some line
-own_line (sf.Assign _ _ line) = Some line
-own_line (sf.Remote _ _ line _) = Some line
-own_line (sf.Call _ line) = Some line
-own_line (sf.PutLine _ line) = Some line
-own_line (sf.Sleep _ line) = Some line
-own_line (sf.Fork _ _ line _) = Some line
-own_line (sf.Return _ line) = Some line
-own_line (sf.Signal _ _ line) = Some line
-own_line (sf.If _ _ _ _ line) = Some line
-own_line (sf.While _ _ line) = Some line
-own_line (sf.For _ _ _ _ line) = Some line
-own_line (sf.Tagcase _ _ _ line) = Some line
-own_line (sf.Begin _ line) = Some line
-own_line (sf.Region _ _ line) = Some line
-own_line (sf.Except _ _) = None
-own_line (sf.Resignal _ _) = None
-
-abbrev pub begun_by : List Item → Option ℕ
-begun_by (item.Exec s ∷ work) = own_line (out-Stmt s)
-begun_by _ = None
-
--- the line of the statement that the next step begins
-abbrev pub stands : List Frame → Option ℕ
-stands [] = None
-stands (f ∷ fs) = begun_by f.work
 
 -- the line at which the process p stands
 abbrev pub line_at : ℕ → NodeState → Option ℕ
