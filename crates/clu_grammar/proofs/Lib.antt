@@ -1,1 +1,3 @@
 pub mod Nests
+pub mod Binds
+pub mod Shrinks
