@@ -1,3 +1,4 @@
 pub mod Nests
 pub mod Binds
 pub mod Shrinks
+pub mod Balance
