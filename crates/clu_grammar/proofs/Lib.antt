@@ -2,3 +2,4 @@ pub mod Nests
 pub mod Binds
 pub mod Shrinks
 pub mod Balance
+pub mod Ending
