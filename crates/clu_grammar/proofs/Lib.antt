@@ -3,3 +3,4 @@ pub mod Binds
 pub mod Shrinks
 pub mod Balance
 pub mod Ending
+pub mod Shapes
