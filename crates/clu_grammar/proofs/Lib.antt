@@ -4,3 +4,4 @@ pub mod Shrinks
 pub mod Balance
 pub mod Ending
 pub mod Shapes
+pub mod Leading
