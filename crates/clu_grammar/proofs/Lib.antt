@@ -5,3 +5,4 @@ pub mod Balance
 pub mod Ending
 pub mod Shapes
 pub mod Leading
+pub mod Sound
