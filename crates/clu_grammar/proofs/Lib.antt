@@ -6,3 +6,4 @@ pub mod Ending
 pub mod Shapes
 pub mod Leading
 pub mod Sound
+pub mod Complete
