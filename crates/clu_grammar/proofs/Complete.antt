@@ -1,6 +1,6 @@
 -- What is read is found, wherever it ends.
-use Rattle.std.proofs.Common.{◌≡◌, ℕ, zero, suc, ◌+◌, ◌<◌, ◌≤◌, max, map, Bool, true, false, cond, List, [], ◌∷◌, length, Option, Some, None, refl, ap, subst, arith, sym, ◌∙◌, inl, inr}
-use Rattle.std.specs.Prelude.{◌==◌, if◌then◌else◌, ◌⊎◌, ◌≢◌}
+use Rattle.std.proofs.Common.{◌≡◌, ℕ, zero, suc, ◌+◌, ◌<◌, ◌≤◌, max, map, Bool, true, false, cond, List, [], ◌∷◌, length, Option, Some, refl, ap, arith, ◌∙◌, inl, inr}
+use Rattle.std.specs.Prelude.{◌==◌, ◌⊎◌, ◌≢◌}
 use Rattle.std.proofs.lemmas.Bool.{eq-eqb, cond-true, cond-false}
 use Rattle.std.proofs.lemmas.Bool.Decides.{eqb_tells}
 use Rattle.clu_tree.specs.Lexical.{word_of}
@@ -25,7 +25,7 @@ use Rattle.clu_grammar.proofs.Binds.{bind_some, within_fits}
 use Rattle.clu_grammar.proofs.Nests.{nests-Binary, nests-Unary, nests-Call, nests-Op, nests-Record, nests-Array, nests-Up, nests-Down, nests-Field, nests-Index, nests_pos}
 use Rattle.clu_grammar.proofs.Shrinks.{shrinks, shrinks-items, shrinks-inits}
 use Rattle.clu_grammar.proofs.Balance.{skips, closes-args}
-use Rattle.clu_grammar.proofs.Ending.{loosens, ends, Ends, Clear, clear-ends, clear-field, clear-index, operator-ends, closes, signs, fresh, unclosed-items}
+use Rattle.clu_grammar.proofs.Ending.{loosens, ends, Ends, Clear, clear-ends, clear-field, clear-index, operator-ends, opens, closes, signs, bare-shape, bare-literal, fresh, unclosed-items}
 use Rattle.clu_grammar.proofs.Shapes.{commas, shape-finds}
 use Rattle.clu_grammar.proofs.Leading.{lead, group-level, level-next, level-lead}
 
@@ -85,8 +85,8 @@ module _ (below : ℕ → Parser Expr) (d : ℕ) where
   unfolding atom
   now-finds l k j r f = fits _ r f
 
-  group-finds : (l k : ℕ) (m r : Tokens) (x : Expr) → level below d 5 m ≡ Some (x, lexeme.Key key.RParen k ∷ r) → lead below d (lexeme.Key key.LParen l ∷ m) ≡ Some (x, r)
-  group-finds l k m r x h = group-level below d m ∙ bind_some h closed
+  lead-group : (l k : ℕ) (m r : Tokens) (x : Expr) → level below d 5 m ≡ Some (x, lexeme.Key key.RParen k ∷ r) → lead below d (lexeme.Key key.LParen l ∷ m) ≡ Some (x, r)
+  lead-group l k m r x h = group-level below d m ∙ bind_some h closed
 
   -- ---- behind a type
 
@@ -112,15 +112,15 @@ module _ (below : ℕ → Parser Expr) (d : ℕ) where
   type-goes : {k : ℕ} {ts m : Tokens} {t : Shape} → ReadsShape ts (lexeme.Key key.Dollar k ∷ m) t → shape_nesting t ≤ d → lead below d ts ≡ behind_type below d (line_of ts) t m
   type-goes {ts = ts} p f = lead-typed p ∙ ap (λ (z : Found Shape). z >>= dollar >>= behind_type below d (line_of ts)) (shape-finds p d f)
 
-  record-finds : (line j h : ℕ) (t : Shape) (m r : Tokens) (fs : List FieldInit) → inits below d (length m) m ≡ Some (fs, lexeme.Key key.RBrace h ∷ r) → expr_nesting (e.Record t fs line meant.Unknown) ≤ d →
+  record-behind : (line j h : ℕ) (t : Shape) (m r : Tokens) (fs : List FieldInit) → inits below d (length m) m ≡ Some (fs, lexeme.Key key.RBrace h ∷ r) → expr_nesting (e.Record t fs line meant.Unknown) ≤ d →
       behind_type below d line t (lexeme.Key key.LBrace j ∷ m) ≡ Some (e.Record t fs line meant.Unknown, r)
   unfolding behind_type
-  record-finds line j h t m r fs g f = ap (λ (z : Found (List FieldInit)). z >>= braced >>= λ fs. expr_within d (e.Record t fs line meant.Unknown)) g ∙ fits _ r f
+  record-behind line j h t m r fs g f = ap (λ (z : Found (List FieldInit)). z >>= braced >>= λ fs. expr_within d (e.Record t fs line meant.Unknown)) g ∙ fits _ r f
 
-  empty-finds : (line j h : ℕ) (t : Shape) (r : Tokens) → expr_nesting (e.Array t [] line meant.Unknown) ≤ d →
+  empty-behind : (line j h : ℕ) (t : Shape) (r : Tokens) → expr_nesting (e.Array t [] line meant.Unknown) ≤ d →
       behind_type below d line t (lexeme.Key key.LBracket j ∷ lexeme.Key key.RBracket h ∷ r) ≡ Some (e.Array t [] line meant.Unknown, r)
   unfolding behind_type
-  empty-finds line j h t r f = fits _ r f
+  empty-behind line j h t r f = fits _ r f
 
   array-goes : (line j : ℕ) (t : Shape) (m : Tokens) → closes m ≡ false →
       behind_type below d line t (lexeme.Key key.LBracket j ∷ m) ≡ (items below d (length m) m >>= bracketed >>= λ xs. expr_within d (e.Array t xs line meant.Unknown))
@@ -128,9 +128,9 @@ module _ (below : ℕ → Parser Expr) (d : ℕ) where
   array-goes line j t (lexeme.Key key.RBracket h ∷ m) c = absurd cc
   array-goes line j t m c = refl
 
-  array-finds : (line j h : ℕ) (t : Shape) (m r : Tokens) (xs : List Expr) → closes m ≡ false → items below d (length m) m ≡ Some (xs, lexeme.Key key.RBracket h ∷ r) → expr_nesting (e.Array t xs line meant.Unknown) ≤ d →
+  array-behind : (line j h : ℕ) (t : Shape) (m r : Tokens) (xs : List Expr) → closes m ≡ false → items below d (length m) m ≡ Some (xs, lexeme.Key key.RBracket h ∷ r) → expr_nesting (e.Array t xs line meant.Unknown) ≤ d →
       behind_type below d line t (lexeme.Key key.LBracket j ∷ m) ≡ Some (e.Array t xs line meant.Unknown, r)
-  array-finds line j h t m r xs c g f =
+  array-behind line j h t m r xs c g f =
       array-goes line j t m c ∙ ap (λ (z : Found (List Expr)). z >>= bracketed >>= λ xs. expr_within d (e.Array t xs line meant.Unknown)) g ∙ fits _ r f
 
   abbrev operation_at : ℕ → Shape → Found (List ℕ) → Found Expr
@@ -149,9 +149,29 @@ module _ (below : ℕ → Parser Expr) (d : ℕ) where
   operation-goes line {j} t {m = m} {x = x} (op_word {o = o} {l = l} h) =
       word-goes o line l j t m x h ∙ ap (λ (z : Option (List ℕ)). operation_at line t (op_word_at z m)) h
 
-  operation-finds : (line : ℕ) {j : ℕ} (t : Shape) {a m : Tokens} {x : List ℕ} → ReadsOp a (lexeme.Key key.LParen j ∷ m) x → (r : Tokens) (xs : List Expr) →
+  operation-behind : (line : ℕ) {j : ℕ} (t : Shape) {a m : Tokens} {x : List ℕ} → ReadsOp a (lexeme.Key key.LParen j ∷ m) x → (r : Tokens) (xs : List Expr) →
       plan.args below d m ≡ Some (xs, r) → expr_nesting (e.Op t x xs line meant.Unknown) ≤ d → behind_type below d line t a ≡ Some (e.Op t x xs line meant.Unknown, r)
-  operation-finds line t {x = x} o r xs h f = operation-goes line t o ∙ bind_some h (λ xs. expr_within d (e.Op t x xs line meant.Unknown)) ∙ fits _ r f
+  operation-behind line t {x = x} o r xs h f = operation-goes line t o ∙ bind_some h (λ xs. expr_within d (e.Op t x xs line meant.Unknown)) ∙ fits _ r f
+
+  -- what begins with a type
+  record-finds : {k j h : ℕ} {ts m r : Tokens} {t : Shape} {fs : List FieldInit} → ReadsShape ts (lexeme.Key key.Dollar k ∷ lexeme.Key key.LBrace j ∷ m) t →
+      inits below d (length m) m ≡ Some (fs, lexeme.Key key.RBrace h ∷ r) → expr_nesting (e.Record t fs (line_of ts) meant.Unknown) ≤ d → lead below d ts ≡ Some (e.Record t fs (line_of ts) meant.Unknown, r)
+  record-finds {j = j} {h = h} {ts = ts} {m = m} {r = r} {t = t} {fs = fs} p g f =
+      type-goes p (omega (arith, f, nests-Record t fs (line_of ts) meant.Unknown)) ∙ record-behind (line_of ts) j h t m r fs g f
+
+  empty-finds : {k j h : ℕ} {ts r : Tokens} {t : Shape} → ReadsShape ts (lexeme.Key key.Dollar k ∷ lexeme.Key key.LBracket j ∷ lexeme.Key key.RBracket h ∷ r) t →
+      expr_nesting (e.Array t [] (line_of ts) meant.Unknown) ≤ d → lead below d ts ≡ Some (e.Array t [] (line_of ts) meant.Unknown, r)
+  empty-finds {j = j} {h = h} {ts = ts} {r = r} {t = t} p f = type-goes p (omega (arith, f, nests-Array t [] (line_of ts) meant.Unknown)) ∙ empty-behind (line_of ts) j h t r f
+
+  array-finds : {k j h : ℕ} {ts m r : Tokens} {t : Shape} {xs : List Expr} → ReadsShape ts (lexeme.Key key.Dollar k ∷ lexeme.Key key.LBracket j ∷ m) t → closes m ≡ false →
+      items below d (length m) m ≡ Some (xs, lexeme.Key key.RBracket h ∷ r) → expr_nesting (e.Array t xs (line_of ts) meant.Unknown) ≤ d → lead below d ts ≡ Some (e.Array t xs (line_of ts) meant.Unknown, r)
+  array-finds {j = j} {h = h} {ts = ts} {m = m} {r = r} {t = t} {xs = xs} p c g f =
+      type-goes p (omega (arith, f, nests-Array t xs (line_of ts) meant.Unknown)) ∙ array-behind (line_of ts) j h t m r xs c g f
+
+  operation-finds : {k j : ℕ} {ts a m r : Tokens} {t : Shape} {x : List ℕ} {xs : List Expr} → ReadsShape ts (lexeme.Key key.Dollar k ∷ a) t → ReadsOp a (lexeme.Key key.LParen j ∷ m) x →
+      plan.args below d m ≡ Some (xs, r) → expr_nesting (e.Op t x xs (line_of ts) meant.Unknown) ≤ d → lead below d ts ≡ Some (e.Op t x xs (line_of ts) meant.Unknown, r)
+  operation-finds {ts = ts} {r = r} {t = t} {x = x} {xs = xs} p o h f =
+      type-goes p (omega (arith, f, nests-Op t x xs (line_of ts) meant.Unknown)) ∙ operation-behind (line_of ts) t o r xs h f
 
   -- ---- lists
 
@@ -317,7 +337,7 @@ mutual
   complete {ts = ts} {r = r} (grouped {k = k} {l = l} {o = o} {m = m} {a = a} {b = c} h e p q) u b d f g =
       let s = joined-nests o a c (line_of ts) in
       let w : Goes_on (suc k) b d ts r (joined o a c (line_of ts)) =
-          λ e v. grouped-goes k b d l o ts m r a c h (omega arith) g (complete p u b d f (omega arith)).1 (inner-finds k m r c (λ b d f g. (complete q (omega arith) b d f g).0) v b (omega arith)) e in
+      λ e v. grouped-goes k b d l o ts m r a c h (omega arith) g (complete p u b d f (omega arith)).1 (inner-finds k m r c (λ b d f g. (complete q (omega arith) b d f g).0) v b (omega arith)) e in
       (goes-whole k b d ts r (joined o a c (line_of ts)) e g w, w)
   complete {ts = ts} {r = r} (compared {k = k} {l = l} {o = o} {m = m} {a = a} {b = c} h e p q) u b d f g =
       let s = joined-nests o a c (line_of ts) in (
@@ -330,17 +350,13 @@ mutual
   complete-primary {ts = ts} {r = r} (literal p) c b d f g = lead-goes b d ts r _ (literal-finds (levels b) d p g)
   complete-primary {ts = ts} {r = r} (name {x = x} {l = l}) c b d f g = lead-goes b d ts r _ (name-finds (levels b) d x l r c.1 g)
   complete-primary {ts = ts} {r = r} (called p) c b d f g = lead-goes b d ts r _ (complete-call p c b d f g)
-  complete-primary {ts = ts} {r = r} (record_of {j = j} {h = h} {m = m} {t = t} {fs = fs} p q) c b d f g =
-      let s = nests-Record t fs (line_of ts) meant.Unknown in
-      lead-goes b d ts r _ (type-goes (levels b) d p (omega arith) ∙ record-finds (levels b) d (line_of ts) j h t m r fs (complete-inits q (omega arith, refl) refl (length m) (omega arith) b d (omega arith)) g)
-  complete-primary {ts = ts} {r = r} (no_items {j = j} {h = h} {t = t} p) c b d f g =
-      let s = nests-Array t [] (line_of ts) meant.Unknown in
-      lead-goes b d ts r _ (type-goes (levels b) d p (omega arith) ∙ empty-finds (levels b) d (line_of ts) j h t r g)
-  complete-primary {ts = ts} {r = r} (array_of {j = j} {h = h} {m = m} {t = t} {xs = xs} p q) c b d f g =
-      let s = nests-Array t xs (line_of ts) meant.Unknown in
+  complete-primary {ts = ts} {r = r} (record_of {m = m} {t = t} {fs = fs} p q) c b d f g =
+      lead-goes b d ts r _ (record-finds (levels b) d p (complete-inits q (omega arith, refl) refl (length m) (omega arith) b d (omega (arith, nests-Record t fs (line_of ts) meant.Unknown))) g)
+  complete-primary {ts = ts} {r = r} (no_items p) c b d f g = lead-goes b d ts r _ (empty-finds (levels b) d p g)
+  complete-primary {ts = ts} {r = r} (array_of {m = m} {t = t} {xs = xs} p q) c b d f g =
       lead-goes b d ts r _
-      (type-goes (levels b) d p (omega arith) ∙ array-finds (levels b) d (line_of ts) j h t m r xs (unclosed-items q) (complete-items q (omega arith, refl) refl (length m) (omega arith) b d (omega arith)) g)
-  complete-primary {ts = ts} {r = r} (group {l = l} {k = k} {m = m} {x = x} p) c b d f g = lead-goes b d ts r x (group-finds (levels b) d l k m r x ((complete p (omega arith) b d f g).0 (omega arith, refl)))
+      (array-finds (levels b) d p (unclosed-items q) (complete-items q (omega arith, refl) refl (length m) (omega arith) b d (omega (arith, nests-Array t xs (line_of ts) meant.Unknown))) g)
+  complete-primary {ts = ts} {r = r} (group {l = l} {k = k} {m = m} {x = x} p) c b d f g = lead-goes b d ts r x (lead-group (levels b) d l k m r x ((complete p (omega arith) b d f g).0 (omega arith, refl)))
   complete-primary {ts = ts} {r = r} (up {l = l} {k = k} {j = j} {m = m} {x = x} p) c b d f g =
       lead-goes b d ts r _ (up-finds (levels b) d l k j m r x (inner-finds 5 m (lexeme.Key key.RParen k ∷ r) x (λ b d f g. (complete p (omega arith) b d f g).0) (omega arith, refl) b (omega (arith, nests-Up x l))) g)
   complete-primary {ts = ts} {r = r} (down {l = l} {k = k} {j = j} {m = m} {x = x} p) c b d f g =
@@ -357,9 +373,8 @@ mutual
   complete-call : {ts r : Tokens} {x : Expr} → ReadsCall ts r x → Clear r → (b d : ℕ) → d ≤ suc b → expr_nesting x ≤ d → lead (levels b) d ts ≡ Some (x, r)
   complete-call {r = r} (call {x = x} {l = l} {k = k} {m = m} {xs = xs} p) c b d f g =
       call-finds (levels b) d x l k m r xs (ap (assigns (length m)) (closes-args p) ∙ c.0 (length m)) (complete-args p b d (omega (arith, nests-Call x xs l meant.Unknown))) g
-  complete-call {ts = ts} {r = r} (operation {x = x} {m = m} {t = t} {xs = xs} p o q) c b d f g =
-      let s = nests-Op t x xs (line_of ts) meant.Unknown in
-      type-goes (levels b) d p (omega arith) ∙ operation-finds (levels b) d (line_of ts) t o r xs (complete-args q b d (omega arith)) g
+  complete-call {ts = ts} (operation {x = x} {t = t} {xs = xs} p o q) c b d f g =
+      operation-finds (levels b) d p o (complete-args q b d (omega (arith, nests-Op t x xs (line_of ts) meant.Unknown))) g
 
   complete-args : {ts r : Tokens} {xs : List Expr} → ReadsArgs ts r xs → (b d : ℕ) → deepest (map expr_nesting xs) ≤ b → plan.args (levels b) d ts ≡ Some (xs, r)
   complete-args {r = r} (no_args {k = k}) b d f = no_args-finds (levels b) d k r
@@ -385,8 +400,45 @@ mutual
 pub levels-finds : {k : ℕ} {ts r : Tokens} {x : Expr} → ReadsExpr k ts r x → k ≤ 5 → Ends k r → (d : ℕ) → expr_nesting x ≤ d → levels d k ts ≡ Some (x, r)
 levels-finds {k} {ts} {r} {x} p u l d f = inner-finds k ts r x (λ b d f g. (complete p u b d f g).0) l d f
 
-pub args-finds : {ts r : Tokens} {xs : List Expr} → ReadsArgs ts r xs → (b d : ℕ) → deepest (map expr_nesting xs) ≤ b → plan.args (levels b) d ts ≡ Some (xs, r)
-args-finds p b d f = complete-args p b d f
+pub args-finds : {ts r : Tokens} {xs : List Expr} → ReadsArgs ts r xs → (d : ℕ) → deepest (map expr_nesting xs) ≤ d → plan.args (levels d) d ts ≡ Some (xs, r)
+args-finds p d f = complete-args p d d f
+
+-- a group, behind its opening bracket
+pub group-finds : {m r : Tokens} {x : Expr} {k : ℕ} → ReadsExpr 5 m (lexeme.Key key.RParen k ∷ r) x → (d : ℕ) → expr_nesting x ≤ d → plan.group (levels d) d m ≡ Some (x, r)
+group-finds {m} {r} {x} {k} p d f = lead-group (levels d) d zero k m r x ((complete p (omega arith) d d (omega arith) f).0 (omega arith, refl))
+
+-- a primary that is found whatever follows it
+abbrev pub is_leaf : {ts r : Tokens} {x : Expr} → ReadsPrimary ts r x → Bool
+is_leaf name = false
+is_leaf (called (call p)) = false
+is_leaf (group p) = false
+is_leaf (field p) = false
+is_leaf (index p q) = false
+is_leaf _ = true
+
+lead-atom : (below : ℕ → Parser Expr) (d : ℕ) (ts : Tokens) → opens ts ≡ false → atom below d ts ≡ lead below d ts
+lead-atom below d (lexeme.Key key.LParen k ∷ ts) h = absurd cc
+lead-atom below d _ h = refl
+
+pub leaf-finds : {ts r : Tokens} {x : Expr} → (p : ReadsPrimary ts r x) → is_leaf p ≡ true → (d : ℕ) → expr_nesting x ≤ d → atom (levels d) d ts ≡ Some (x, r)
+leaf-finds {ts = ts} (literal p) h d f = lead-atom (levels d) d ts (bare-literal p).1 ∙ literal-finds (levels d) d p f
+leaf-finds name h d f = absurd cc
+leaf-finds (called (call p)) h d f = absurd cc
+leaf-finds {ts = ts} (called (operation {x = x} {t = t} {xs = xs} p o q)) h d f =
+    lead-atom (levels d) d ts (bare-shape p).1 ∙ operation-finds (levels d) d p o (complete-args q d d (omega (arith, nests-Op t x xs (line_of ts) meant.Unknown))) f
+leaf-finds {ts = ts} (record_of {m = m} {t = t} {fs = fs} p q) h d f =
+    lead-atom (levels d) d ts (bare-shape p).1
+    ∙ record-finds (levels d) d p (complete-inits q (omega arith, refl) refl (length m) (omega arith) d d (omega (arith, nests-Record t fs (line_of ts) meant.Unknown))) f
+leaf-finds {ts = ts} (no_items p) h d f = lead-atom (levels d) d ts (bare-shape p).1 ∙ empty-finds (levels d) d p f
+leaf-finds {ts = ts} (array_of {m = m} {t = t} {xs = xs} p q) h d f =
+    lead-atom (levels d) d ts (bare-shape p).1
+    ∙ array-finds (levels d) d p (unclosed-items q) (complete-items q (omega arith, refl) refl (length m) (omega arith) d d (omega (arith, nests-Array t xs (line_of ts) meant.Unknown))) f
+leaf-finds (group p) h d f = absurd cc
+leaf-finds {r = r} (up {l = l} {k = k} {j = j} {m = m} {x = x} p) h d f = up-finds (levels d) d l k j m r x (levels-finds p (omega arith) (omega arith, refl) d (omega (arith, nests-Up x l))) f
+leaf-finds {r = r} (down {l = l} {k = k} {j = j} {m = m} {x = x} p) h d f = down-finds (levels d) d l k j m r x (levels-finds p (omega arith) (omega arith, refl) d (omega (arith, nests-Down x l))) f
+leaf-finds {r = r} (now {l = l} {k = k} {j = j}) h d f = now-finds (levels d) d l k j r f
+leaf-finds (field p) h d f = absurd cc
+leaf-finds (index p q) h d f = absurd cc
 
 -- no text has two trees
 pub one_tree : (ts : Tokens) (x y : Expr) → ReadsExpr 5 ts [] x → ReadsExpr 5 ts [] y → x ≡ y

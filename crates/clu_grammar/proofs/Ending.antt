@@ -1,5 +1,5 @@
 -- Where an expression ends: what may follow it, and how the look-ahead tells.
-use Rattle.std.proofs.Common.{◌≡◌, ℕ, zero, suc, ◌+◌, ◌<◌, ◌≤◌, Bool, true, false, List, [], ◌∷◌, length, Option, Some, None, refl, ap, sym, subst, ◌∙◌, arith}
+use Rattle.std.proofs.Common.{◌≡◌, ℕ, zero, suc, ◌+◌, ◌<◌, ◌≤◌, Bool, true, false, List, ◌∷◌, length, Some, refl, ap, ◌∙◌, arith}
 use Rattle.clu_tree.specs.declared.lexeme.Key.{Key}
 use Rattle.clu_tree.specs.declared.lexeme.Key.TheVariants as key
 use Rattle.clu_tree.specs.declared.lexeme.Lexeme.TheVariants as lexeme
@@ -84,11 +84,11 @@ signs (lexeme.Key key.Tilde _ ∷ _) = true
 signs _ = false
 
 -- None of these, and nothing that goes on with an expression.
-abbrev Fresh : Tokens → Type 0
+abbrev pub Fresh : Tokens → Type 0
 Fresh ts = (closes ts ≡ false) × (signs ts ≡ false) × (loosens ts ≡ 6)
 
 -- no bracket either
-abbrev Bare : Tokens → Type 0
+abbrev pub Bare : Tokens → Type 0
 Bare ts = Fresh ts × (opens ts ≡ false) × (ends ts ≡ true)
 
 bare-type : (o : Key) (l : ℕ) (r : Tokens) (t : Shape) → type_of o ≡ Some t → Bare (lexeme.Key o l ∷ r)
@@ -103,14 +103,14 @@ bare-type key.Cvt l r t h = ((refl, refl, refl), refl, refl)
 bare-type key.Rep l r t h = ((refl, refl, refl), refl, refl)
 bare-type _ l r t h = absurd cc
 
-bare-shape : {ts r : Tokens} {t : Shape} → ReadsShape ts r t → Bare ts
+pub bare-shape : {ts r : Tokens} {t : Shape} → ReadsShape ts r t → Bare ts
 bare-shape (type_word {o = o} {n = n} {r = r} {t = t} h) = bare-type o n r t h
 bare-shape type_name = ((refl, refl, refl), refl, refl)
 bare-shape (array_type p) = ((refl, refl, refl), refl, refl)
 bare-shape (record_type p) = ((refl, refl, refl), refl, refl)
 bare-shape (oneof_type p) = ((refl, refl, refl), refl, refl)
 
-bare-literal : {ts r : Tokens} {x : Value} → ReadsLiteral ts r x → Bare ts
+pub bare-literal : {ts r : Tokens} {x : Value} → ReadsLiteral ts r x → Bare ts
 bare-literal nil = ((refl, refl, refl), refl, refl)
 bare-literal yes = ((refl, refl, refl), refl, refl)
 bare-literal no = ((refl, refl, refl), refl, refl)

@@ -1,10 +1,10 @@
 -- Brackets at the front of an expression: a loop over their lines finds what a recursion on each would find.
-use Rattle.std.proofs.Common.{◌≡◌, ℕ, zero, suc, Bool, false, List, [], ◌∷◌, Some, None, refl, ap, sym, ◌∙◌}
+use Rattle.std.proofs.Common.{◌≡◌, ℕ, zero, suc, false, List, [], ◌∷◌, Some, None, refl, ap, sym, ◌∙◌}
 use Rattle.clu_tree.specs.declared.lexeme.Key.TheVariants as key
 use Rattle.clu_tree.specs.declared.lexeme.Lexeme.TheVariants as lexeme
 use Rattle.clu_tree.specs.declared.tree.Expr.{Expr}
 use Rattle.clu_grammar.specs.Grammar.{Tokens, line_of}
-use Rattle.clu_grammar.specs.ExprPlan.{Found, Parser, ◌>>=◌, closed, atom, postfix, joins, binaries, onward, operand, plain, unwound, inside, group, level}
+use Rattle.clu_grammar.specs.ExprPlan.{Found, Parser, ◌>>=◌, closed, atom, postfix, joins, binaries, onward, operand, unwound, inside, group, level}
 use Rattle.clu_grammar.proofs.Binds.{bind_assoc, bind_same}
 use Rattle.clu_grammar.proofs.Ending.{signs}
 

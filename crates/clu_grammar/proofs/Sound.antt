@@ -1,6 +1,6 @@
 -- What the plan finds is read so.
-use Rattle.std.proofs.Common.{◌≡◌, ℕ, zero, suc, ◌+◌, ◌≤◌, max, map, Bool, true, false, cond, List, [], ◌∷◌, length, Option, Some, None, refl, ap, subst, arith, inl, inr}
-use Rattle.std.specs.Prelude.{◌==◌, ◌⊎◌, if◌then◌else◌}
+use Rattle.std.proofs.Common.{◌≡◌, ℕ, zero, suc, ◌≤◌, map, Bool, true, false, cond, List, [], ◌∷◌, length, Option, Some, None, refl, subst, arith, inl, inr}
+use Rattle.std.specs.Prelude.{◌==◌, ◌⊎◌}
 use Rattle.std.proofs.lemmas.Bool.{eqb-true}
 use Rattle.clu_tree.specs.Lexical.{word_of}
 use Rattle.clu_tree.specs.declared.lexeme.Key.{Key}
@@ -8,7 +8,6 @@ use Rattle.clu_tree.specs.declared.lexeme.Key.TheVariants as key
 use Rattle.clu_tree.specs.declared.lexeme.Lexeme.TheVariants as lexeme
 use Rattle.clu_tree.specs.declared.shape.Shape.{Shape}
 use Rattle.clu_tree.specs.declared.value.Value.{Value}
-use Rattle.clu_tree.specs.declared.value.Value.TheVariants as v
 use Rattle.clu_tree.specs.declared.tree.Meant.TheVariants as meant
 use Rattle.clu_tree.specs.declared.tree.Prefix.{Prefix}
 use Rattle.clu_tree.specs.declared.tree.Prefix.TheVariants as p
@@ -25,7 +24,7 @@ use Rattle.clu_grammar.proofs.Shapes.{shape-sound}
 use Rattle.clu_grammar.proofs.Leading.{group-level}
 
 -- What is found at looseness k is read there, with at most b levels.
-abbrev pub Sound : (ℕ → Parser Expr) → ℕ → Type 0
+abbrev Sound : (ℕ → Parser Expr) → ℕ → Type 0
 Sound below b = (k : ℕ) (ts : Tokens) (y : Expr × Tokens) → below k ts ≡ Some y → ReadsExpr k ts y.1 y.0 × (expr_nesting y.0 ≤ b)
 
 abbrev SoundItems : ℕ → Tokens → List Expr × Tokens → Type 0
@@ -37,7 +36,7 @@ SoundInits b ts y = ReadsInits ts y.1 y.0 × (deepest (map init_nesting y.0) ≤
 abbrev SoundPrimary : ℕ → Tokens → Expr × Tokens → Type 0
 SoundPrimary d ts y = ReadsPrimary ts y.1 y.0 × (expr_nesting y.0 ≤ d)
 
-pub literal_at-sound : (ts : Tokens) (y : Value × Tokens) → literal_at ts ≡ Some y → ReadsLiteral ts y.1 y.0
+literal_at-sound : (ts : Tokens) (y : Value × Tokens) → literal_at ts ≡ Some y → ReadsLiteral ts y.1 y.0
 literal_at-sound (lexeme.Key key.Nil l ∷ r) y h = same_found (λ z q. ReadsLiteral (lexeme.Key key.Nil l ∷ r) q z) _ r y h nil
 literal_at-sound (lexeme.Key key.True l ∷ r) y h = same_found (λ z q. ReadsLiteral (lexeme.Key key.True l ∷ r) q z) _ r y h yes
 literal_at-sound (lexeme.Key key.False l ∷ r) y h = same_found (λ z q. ReadsLiteral (lexeme.Key key.False l ∷ r) q z) _ r y h no
@@ -82,7 +81,7 @@ dotted-sound d n ts a (lexeme.Name x l ∷ r) y p h = passes expr_nesting (λ z 
 dotted-sound d n ts a _ y p h = absurd cc
 
 module _ (below : ℕ → Parser Expr) (b : ℕ) (sound : Sound below b) (d : ℕ) where
-  pub items-sound : (n : ℕ) (ts : Tokens) (y : List Expr × Tokens) → items below d n ts ≡ Some y → ReadsItems ts y.1 y.0 × (deepest (map expr_nesting y.0) ≤ b)
+  items-sound : (n : ℕ) (ts : Tokens) (y : List Expr × Tokens) → items below d n ts ≡ Some y → ReadsItems ts y.1 y.0 × (deepest (map expr_nesting y.0) ≤ b)
   unfolding items
   items-sound zero ts y h = absurd cc
   items-sound (suc n) ts y h =
@@ -96,12 +95,12 @@ module _ (below : ℕ → Parser Expr) (b : ℕ) (sound : Sound below b) (d : �
       let i = items-sound (length ts) ts (y.0, lexeme.Key key.RParen c.0 ∷ y.1) c.1 in
       (args i.0, i.1)
 
-  pub args-sound : (ts : Tokens) (y : List Expr × Tokens) → plan.args below d ts ≡ Some y → ReadsArgs ts y.1 y.0 × (deepest (map expr_nesting y.0) ≤ b)
+  args_over-sound : (ts : Tokens) (y : List Expr × Tokens) → plan.args below d ts ≡ Some y → ReadsArgs ts y.1 y.0 × (deepest (map expr_nesting y.0) ≤ b)
   unfolding plan.args
-  args-sound (lexeme.Key key.RParen l ∷ r) y h = same_found (λ z q. ReadsArgs (lexeme.Key key.RParen l ∷ r) q z × (deepest (map expr_nesting z) ≤ b)) [] r y h (no_args, omega arith)
-  args-sound ts y h = closed_items-sound ts y h
+  args_over-sound (lexeme.Key key.RParen l ∷ r) y h = same_found (λ z q. ReadsArgs (lexeme.Key key.RParen l ∷ r) q z × (deepest (map expr_nesting z) ≤ b)) [] r y h (no_args, omega arith)
+  args_over-sound ts y h = closed_items-sound ts y h
 
-  pub inits-sound : (n : ℕ) (ts : Tokens) (y : List FieldInit × Tokens) → inits below d n ts ≡ Some y → ReadsInits ts y.1 y.0 × (deepest (map init_nesting y.0) ≤ b)
+  inits-sound : (n : ℕ) (ts : Tokens) (y : List FieldInit × Tokens) → inits below d n ts ≡ Some y → ReadsInits ts y.1 y.0 × (deepest (map init_nesting y.0) ≤ b)
   unfolding inits
   inits-sound zero ts y h = absurd cc
   inits-sound (suc n) (lexeme.Name x l ∷ lexeme.Key key.Colon k ∷ m) y h =
@@ -132,7 +131,7 @@ module _ (below : ℕ → Parser Expr) (b : ℕ) (sound : Sound below b) (d : �
       let o = bind_ok (op_at m) _ h in
       let c = bind_ok (plan.args below d o.0.1) _ o.2 in
       let w = op_at-sound m o.0 o.1 in
-      let i = args-sound o.0.1 c.0 c.1 in
+      let i = args_over-sound o.0.1 c.0 c.1 in
       passes expr_nesting (λ z q. ReadsPrimary ts q z) d _ c.0.1 y c.2 (called (operation p w.1 i.0))
 
   behind-sound : (k : ℕ) (ts : Tokens) (t : Shape) (m : Tokens) (y : Expr × Tokens) → ReadsShape ts (lexeme.Key key.Dollar k ∷ m) t → behind_type below d (line_of ts) t m ≡ Some y → SoundPrimary d ts y
@@ -167,7 +166,7 @@ module _ (below : ℕ → Parser Expr) (b : ℕ) (sound : Sound below b) (d : �
       go (inl q) = passes expr_nesting (λ z r. ReadsPrimary (lexeme.Name x l ∷ lexeme.Key key.LParen k ∷ m) r z) d _ _ y q.1 name
       go (inr q) =
           let c = bind_ok (plan.args below d m) _ q.1 in
-          let i = args-sound m c.0 c.1 in
+          let i = args_over-sound m c.0 c.1 in
           passes expr_nesting (λ z r. ReadsPrimary (lexeme.Name x l ∷ lexeme.Key key.LParen k ∷ m) r z) d _ c.0.1 y c.2 (called (call i.0))
 
   up-sound : (l j : ℕ) (m : Tokens) (y : Expr × Tokens) → (below 5 m >>= closed >>= λ a. expr_within d (e.Up a l)) ≡ Some y → SoundPrimary d (lexeme.Key key.Up l ∷ lexeme.Key key.LParen j ∷ m) y
@@ -184,18 +183,18 @@ module _ (below : ℕ → Parser Expr) (b : ℕ) (sound : Sound below b) (d : �
       let i = sound 5 m (c.0.0, lexeme.Key key.RParen g.0 ∷ c.0.1) g.1 in
       passes expr_nesting (λ z q. ReadsPrimary (lexeme.Key key.Down l ∷ lexeme.Key key.LParen j ∷ m) q z) d _ c.0.1 y c.2 (down i.0)
 
-  pub atom-sound : (ts : Tokens) (y : Expr × Tokens) → atom below d ts ≡ Some y → ReadsPrimary ts y.1 y.0 × (expr_nesting y.0 ≤ d)
+  atom_over-sound : (ts : Tokens) (y : Expr × Tokens) → atom below d ts ≡ Some y → ReadsPrimary ts y.1 y.0 × (expr_nesting y.0 ≤ d)
   unfolding atom
-  atom-sound (lexeme.Name x l ∷ lexeme.Key key.LParen k ∷ m) y h = name-sound x l k m y h
-  atom-sound (lexeme.Name x l ∷ lexeme.Key key.Dollar k ∷ m) y h = typed-sound (lexeme.Name x l ∷ lexeme.Key key.Dollar k ∷ m) y h
-  atom-sound (lexeme.Name x l ∷ r) y h = passes expr_nesting (λ z q. ReadsPrimary (lexeme.Name x l ∷ r) q z) d _ r y h name
-  atom-sound (lexeme.Key key.Up l ∷ lexeme.Key key.LParen j ∷ m) y h = up-sound l j m y h
-  atom-sound (lexeme.Key key.Down l ∷ lexeme.Key key.LParen j ∷ m) y h = down-sound l j m y h
-  atom-sound (lexeme.Key key.Now l ∷ lexeme.Key key.LParen k ∷ lexeme.Key key.RParen j ∷ r) y h =
+  atom_over-sound (lexeme.Name x l ∷ lexeme.Key key.LParen k ∷ m) y h = name-sound x l k m y h
+  atom_over-sound (lexeme.Name x l ∷ lexeme.Key key.Dollar k ∷ m) y h = typed-sound (lexeme.Name x l ∷ lexeme.Key key.Dollar k ∷ m) y h
+  atom_over-sound (lexeme.Name x l ∷ r) y h = passes expr_nesting (λ z q. ReadsPrimary (lexeme.Name x l ∷ r) q z) d _ r y h name
+  atom_over-sound (lexeme.Key key.Up l ∷ lexeme.Key key.LParen j ∷ m) y h = up-sound l j m y h
+  atom_over-sound (lexeme.Key key.Down l ∷ lexeme.Key key.LParen j ∷ m) y h = down-sound l j m y h
+  atom_over-sound (lexeme.Key key.Now l ∷ lexeme.Key key.LParen k ∷ lexeme.Key key.RParen j ∷ r) y h =
       passes expr_nesting (λ z q. ReadsPrimary (lexeme.Key key.Now l ∷ lexeme.Key key.LParen k ∷ lexeme.Key key.RParen j ∷ r) q z) d _ r y h now
-  atom-sound ts y h = literal_or-sound ts y h
+  atom_over-sound ts y h = literal_or-sound ts y h
 
-  pub postfix-sound : (n : ℕ) (ts : Tokens) (a : Expr) (m : Tokens) (y : Expr × Tokens) → ReadsPrimary ts m a → expr_nesting a ≤ d → postfix below d n (line_of ts) a m ≡ Some y → SoundPrimary d ts y
+  postfix-sound : (n : ℕ) (ts : Tokens) (a : Expr) (m : Tokens) (y : Expr × Tokens) → ReadsPrimary ts m a → expr_nesting a ≤ d → postfix below d n (line_of ts) a m ≡ Some y → SoundPrimary d ts y
   unfolding postfix
   postfix-sound zero ts a m y p f h = absurd cc
   postfix-sound (suc n) ts a (lexeme.Key key.Dot l ∷ m) y p f h =
@@ -223,7 +222,7 @@ module _ (below : ℕ → Parser Expr) (b : ℕ) (sound : Sound below b) (d : �
   bare-sound : (ts : Tokens) (y : Expr × Tokens) → (atom below d ts >>= postfix below d (suc d) (line_of ts)) ≡ Some y → SoundAt zero ts y
   bare-sound ts y h =
       let c = bind_ok (atom below d ts) _ h in
-      let i = atom-sound ts c.0 c.1 in
+      let i = atom_over-sound ts c.0 c.1 in
       let w = postfix-sound (suc d) ts c.0.0 c.0.1 y i.0 i.1 c.2 in
       (primary w.0, w.1)
 
@@ -302,7 +301,7 @@ module _ (below : ℕ → Parser Expr) (b : ℕ) (sound : Sound below b) (d : �
       let i = ih (y.0, lexeme.Key key.RParen g.0 ∷ y.1) g.1 in
       (group i.0, i.1)
 
-  pub level-sound : (k : ℕ) (ts : Tokens) (y : Expr × Tokens) → level below d k ts ≡ Some y → ReadsExpr k ts y.1 y.0 × (expr_nesting y.0 ≤ d)
+  level-sound : (k : ℕ) (ts : Tokens) (y : Expr × Tokens) → level below d k ts ≡ Some y → ReadsExpr k ts y.1 y.0 × (expr_nesting y.0 ≤ d)
   unfolding level
   level-sound k (lexeme.Key key.LParen l ∷ m) y h =
       let c = bind_ok (plan.group below d m) _ h in
@@ -310,11 +309,20 @@ module _ (below : ℕ → Parser Expr) (b : ℕ) (sound : Sound below b) (d : �
       onward-sound k (lexeme.Key key.LParen l ∷ m) c.0.0 c.0.1 y w.0 w.1 c.2
   level-sound k ts y h = plain-sound k ts y h
 
-  -- a group, behind its opening bracket
-  pub group-sound : (l : ℕ) (m : Tokens) (y : Expr × Tokens) → plan.group below d m ≡ Some y → ReadsPrimary (lexeme.Key key.LParen l ∷ m) y.1 y.0 × (expr_nesting y.0 ≤ d)
-  group-sound l m y h = closed_group-sound l m (level-sound 5 m) y h
+  group_over-sound : (l : ℕ) (m : Tokens) (y : Expr × Tokens) → plan.group below d m ≡ Some y → ReadsPrimary (lexeme.Key key.LParen l ∷ m) y.1 y.0 × (expr_nesting y.0 ≤ d)
+  group_over-sound l m y h = closed_group-sound l m (level-sound 5 m) y h
 
 pub levels-sound : (d k : ℕ) (ts : Tokens) (y : Expr × Tokens) → levels d k ts ≡ Some y → ReadsExpr k ts y.1 y.0 × (expr_nesting y.0 ≤ d)
 unfolding levels
 levels-sound zero k ts y h = absurd cc
 levels-sound (suc d) k ts y h = level-sound (levels d) d (levels-sound d) (suc d) k ts y h
+
+pub args-sound : (d : ℕ) (ts : Tokens) (y : List Expr × Tokens) → plan.args (levels d) d ts ≡ Some y → ReadsArgs ts y.1 y.0 × (deepest (map expr_nesting y.0) ≤ d)
+args-sound d ts y h = args_over-sound (levels d) d (levels-sound d) d ts y h
+
+pub atom-sound : (d : ℕ) (ts : Tokens) (y : Expr × Tokens) → atom (levels d) d ts ≡ Some y → ReadsPrimary ts y.1 y.0 × (expr_nesting y.0 ≤ d)
+atom-sound d ts y h = atom_over-sound (levels d) d (levels-sound d) d ts y h
+
+-- a group, behind its opening bracket
+pub group-sound : (d l : ℕ) (ts : Tokens) (y : Expr × Tokens) → plan.group (levels d) d ts ≡ Some y → ReadsPrimary (lexeme.Key key.LParen l ∷ ts) y.1 y.0 × (expr_nesting y.0 ≤ d)
+group-sound d l ts y h = group_over-sound (levels d) d (levels-sound d) d l ts y h
