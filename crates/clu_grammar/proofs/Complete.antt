@@ -440,9 +440,9 @@ leaf-finds {r = r} (now {l = l} {k = k} {j = j}) h d f = now-finds (levels d) d 
 leaf-finds (field p) h d f = absurd cc
 leaf-finds (index p q) h d f = absurd cc
 
--- no text has two trees
-pub one_tree : (ts : Tokens) (x y : Expr) → ReadsExpr 5 ts [] x → ReadsExpr 5 ts [] y → x ≡ y
-one_tree ts x y p q =
+-- Tokens that are an expression throughout are one only.
+pub one_expression : (ts : Tokens) (x y : Expr) → ReadsExpr 5 ts [] x → ReadsExpr 5 ts [] y → x ≡ y
+one_expression ts x y p q =
     let d = max (expr_nesting x) (expr_nesting y) in
     let a = levels-finds p (omega arith) (omega arith, refl) d (omega arith) in
     let b = levels-finds q (omega arith) (omega arith, refl) d (omega arith) in

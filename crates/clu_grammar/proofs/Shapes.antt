@@ -1,5 +1,5 @@
 -- Types: what is found is read, and what is read is found.
-use Rattle.std.proofs.Common.{◌≡◌, ℕ, zero, suc, ◌≤◌, map, Bool, true, false, List, [], ◌∷◌, length, Option, Some, None, refl, ap, subst, ◌∙◌, arith}
+use Rattle.std.proofs.Common.{◌≡◌, ℕ, zero, suc, ◌≤◌, max, map, Bool, true, false, List, [], ◌∷◌, length, Option, Some, None, refl, ap, subst, ◌∙◌, arith}
 use Rattle.clu_tree.specs.declared.lexeme.Key.{Key}
 use Rattle.clu_tree.specs.declared.lexeme.Key.TheVariants as key
 use Rattle.clu_tree.specs.declared.lexeme.Lexeme.TheVariants as lexeme
@@ -148,3 +148,12 @@ mutual
   fields-finds {r = r} (last_field {x = x} {n = l} {m = k} {a = m} {t = t} p) c d (suc n) g f = last-finds (shape d) x l k n m r t (shape-finds p d (omega (arith, f))) c
   fields-finds {r = r} (field_and {x = x} {n = l} {m = k} {k = j} {a = m} {b = q} {t = t} {fs = fs} p w) c d (suc n) g f =
       and-finds (shape d) x l k j n m q r t fs (shape-finds p d (omega (arith, f))) (fields-finds w c d n (omega (arith, g, shrinks-shape p)) (omega (arith, f)))
+
+-- Tokens begin with one type at most, and it ends at one place.
+pub one_type : (ts r q : Tokens) (t u : Shape) → ReadsShape ts r t → ReadsShape ts q u → (t ≡ u) × (r ≡ q)
+one_type ts r q t u v w =
+    let d = max (shape_nesting t) (shape_nesting u) in
+    let a = shape-finds v d (omega arith) in
+    let b = shape-finds w d (omega arith) in
+    let same : ◌≡◌ {A = Shape × Tokens} (t, r) (u, q) = cc in
+    (ap (λ (z : Shape × Tokens). z.0) same, ap (λ (z : Shape × Tokens). z.1) same)
