@@ -7,3 +7,6 @@ pub mod Shapes
 pub mod Leading
 pub mod Sound
 pub mod Complete
+pub mod StmtKeys
+pub mod StmtShrinks
+pub mod StmtFollows
