@@ -10,3 +10,6 @@ pub mod Complete
 pub mod StmtKeys
 pub mod StmtShrinks
 pub mod StmtFollows
+pub mod StmtSound
+pub mod StmtPieces
+pub mod StmtFront
