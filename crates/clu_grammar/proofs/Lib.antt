@@ -13,3 +13,4 @@ pub mod StmtFollows
 pub mod StmtSound
 pub mod StmtPieces
 pub mod StmtFront
+pub mod StmtComplete
