@@ -14,3 +14,5 @@ pub mod StmtSound
 pub mod StmtPieces
 pub mod StmtFront
 pub mod StmtComplete
+pub mod ProgramNesting
+pub mod ProgramSound

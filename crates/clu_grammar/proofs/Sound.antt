@@ -36,7 +36,7 @@ SoundInits b ts y = ReadsInits ts y.1 y.0 × (deepest (map init_nesting y.0) ≤
 abbrev SoundPrimary : ℕ → Tokens → Expr × Tokens → Type 0
 SoundPrimary d ts y = ReadsPrimary ts y.1 y.0 × (expr_nesting y.0 ≤ d)
 
-literal_at-sound : (ts : Tokens) (y : Value × Tokens) → literal_at ts ≡ Some y → ReadsLiteral ts y.1 y.0
+pub literal_at-sound : (ts : Tokens) (y : Value × Tokens) → literal_at ts ≡ Some y → ReadsLiteral ts y.1 y.0
 literal_at-sound (lexeme.Key key.Nil l ∷ r) y h = same_found (λ z q. ReadsLiteral (lexeme.Key key.Nil l ∷ r) q z) _ r y h nil
 literal_at-sound (lexeme.Key key.True l ∷ r) y h = same_found (λ z q. ReadsLiteral (lexeme.Key key.True l ∷ r) q z) _ r y h yes
 literal_at-sound (lexeme.Key key.False l ∷ r) y h = same_found (λ z q. ReadsLiteral (lexeme.Key key.False l ∷ r) q z) _ r y h no
