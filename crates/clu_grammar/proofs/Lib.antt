@@ -16,3 +16,4 @@ pub mod StmtFront
 pub mod StmtComplete
 pub mod ProgramNesting
 pub mod ProgramSound
+pub mod ProgramComplete

@@ -27,7 +27,7 @@ use Rattle.clu_grammar.proofs.Nests.{others_nesting, nests-Assign, nests-If, nes
 use Rattle.clu_grammar.proofs.Shrinks.{shrinks}
 use Rattle.clu_grammar.proofs.Shapes.{shape-finds, commas}
 use Rattle.clu_grammar.proofs.StmtShrinks.{shrinks-names, shrinks-variable, shrinks-body, shrinks-stmt}
-use Rattle.clu_grammar.proofs.StmtFollows.{suffixed, Follows, Begins, stmt-begins, ended-follows}
+use Rattle.clu_grammar.proofs.StmtFollows.{suffixed, headed, Follows, Begins, stmt-begins, ended-follows}
 use Rattle.clu_grammar.proofs.StmtFront.{assigns-field, assigns-item, call-finds}
 use Rattle.clu_grammar.proofs.StmtPieces.{names-finds, expr-finds, variable-finds, iter-finds, declare-finds, declare_as-finds, assigns-name, remote_to-finds, remote_alone-finds, put_line-finds, sleep-finds, fork-finds, leave-finds, give-finds, signal-finds, signal_with-finds}
 
@@ -246,10 +246,10 @@ over-body {r = r} g.body_end h e zero f = cond-true (ends_body r) _ _ e
 over-body (g.body {x = x} p q) h e zero f = absurd (omega (arith, f, stmt_nests_pos x))
 over-body {m = m} p h e (suc d) f = h (suc (length m)) d (omega arith) f
 
--- What comes behind a statement may follow it, and is no suffix.
-body-begins : {ts r : Tokens} {xs : List Stmt} → ReadsBody ts r xs → ends_body r ≡ true → Follows ts × (suffixed ts ≡ false)
+-- What comes behind a statement may follow it, is no suffix, and no part of a header.
+pub body-begins : {ts r : Tokens} {xs : List Stmt} → ReadsBody ts r xs → ends_body r ≡ true → Follows ts × (suffixed ts ≡ false) × (headed ts ≡ false)
 body-begins {r = r} g.body_end h = ended-follows r h
-body-begins (g.body p q) h = let b = stmt-begins p in (b.0, b.1)
+body-begins (g.body p q) h = let b = stmt-begins p in (b.0, b.1, b.3)
 
 mutual
   complete-body : {ts r : Tokens} {xs : List Stmt} → ReadsBody ts r xs → ends_body r ≡ true → (n d : ℕ) → length ts < n → deepest (map stmt_nesting xs) ≤ suc d → plan.stmts (plan.body d) (suc d) n ts ≡ Some (xs, r)
