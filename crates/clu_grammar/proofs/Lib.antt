@@ -17,3 +17,4 @@ pub mod StmtComplete
 pub mod ProgramNesting
 pub mod ProgramSound
 pub mod ProgramComplete
+pub mod ProgramBoth

@@ -18,25 +18,16 @@ use Rattle.clu_tree.specs.declared.tree.Stmt.{Stmt}
 use Rattle.clu_grammar.specs.Grammar as g
 use Rattle.clu_grammar.specs.Grammar.{Tokens, Part, AnEquate, ANodeVar, ARoutine, ACluster, ANode, empty_program, program_of, ReadsShape, ReadsSigned, ReadsValueList, ReadsValues, ReadsCarried, ReadsListed, ReadsParams, ReadsResult, ReadsSignals, ReadsBody, ReadsNames, ReadsRoutine, ReadsRoutines, ReadsNodeParts, ReadsInitial, ReadsPart, ReadsParts, ReadsProgram}
 use Rattle.clu_grammar.specs.Nesting.{deepest, shape_nesting, named_nesting, carried_nesting, listed_nesting, routine_nesting, initial_nesting, node_var_nesting, stmt_nesting, program_nesting}
-use Rattle.clu_grammar.specs.ExprPlan.{Found, Parser, ◌>>=◌, closed, bracketed, fields}
+use Rattle.clu_grammar.specs.ExprPlan.{Found, Parser, ◌>>=◌, closed, bracketed, shape, fields}
 use Rattle.clu_grammar.specs.StmtPlan.{names, body}
 use Rattle.clu_grammar.specs.ProgramPlan as plan
-use Rattle.clu_grammar.specs.ProgramPlan.{any_shape, deepest_tree, rep_key}
+use Rattle.clu_grammar.specs.ProgramPlan.{deepest_tree, rep_key}
 use Rattle.clu_grammar.proofs.Binds.{bind_ok, bind_some, chosen, same_found, closed_ok, bracketed_ok}
 use Rattle.clu_grammar.proofs.Shapes.{shape-sound, fields-sound}
 use Rattle.clu_grammar.proofs.Sound.{literal_at-sound}
 use Rattle.clu_grammar.proofs.StmtSound.{names-sound, body-sound}
 use Rattle.clu_grammar.proofs.ProgramNesting.{part_nesting, nests-Program}
 
-
-any_shape-sound : (ts : Tokens) (y : Shape × Tokens) → any_shape ts ≡ Some y → ReadsShape ts y.1 y.0 × (shape_nesting y.0 ≤ 200)
-any_shape-sound ts y h = shape-sound 200 ts y h
-
-shape_closed : (m : Tokens) (y : Shape × Tokens) → (any_shape m >>= closed) ≡ Some y → (n : ℕ) × ReadsShape m (lexeme.Key key.RParen n ∷ y.1) y.0 × (shape_nesting y.0 ≤ 200)
-shape_closed m y h =
-    let c = closed_ok (any_shape m) y h in
-    let s = any_shape-sound m (y.0, lexeme.Key key.RParen c.0 ∷ y.1) c.1 in
-    (c.0, s.0, s.1)
 
 -- ---- literals
 
@@ -65,59 +56,7 @@ values-sound : (ts : Tokens) (y : List Value × Tokens) → plan.values ts ≡ S
 values-sound (lexeme.Key key.RParen k ∷ r) y h = same_found (λ z q. ReadsValues (lexeme.Key key.RParen k ∷ r) q z) [] r y h g.no_values
 values-sound ts y h = value_list_closed ts y h
 
--- ---- routines
-
-carried-sound : (ts : Tokens) (y : Option Shape × Tokens) → plan.carried ts ≡ Some y → ReadsCarried ts y.1 y.0 × (carried_nesting y.0 ≤ 200)
-carried-sound (lexeme.Key key.LParen l ∷ m) y h =
-    let b = bind_ok (any_shape m >>= closed) _ h in
-    let s = shape_closed m b.0 b.1 in
-    same_found (λ z q. ReadsCarried (lexeme.Key key.LParen l ∷ m) q z × (carried_nesting z ≤ 200)) (Some b.0.0) b.0.1 y b.2 (g.value s.1, s.2)
-carried-sound ts y h = same_found (λ z q. ReadsCarried ts q z × (carried_nesting z ≤ 200)) None ts y h (g.no_value, omega arith)
-
-abbrev SoundListed : Tokens → List Listed × Tokens → Type 0
-SoundListed ts y = ReadsListed ts y.1 y.0 × (deepest (map listed_nesting y.0) ≤ 200)
-
-listed_after-sound : (others : Parser (List Listed)) → ((m : Tokens) (z : List Listed × Tokens) → others m ≡ Some z → SoundListed m z) →
-    (x : List ℕ) (l : ℕ) (ts : Tokens) (s : Option Shape) (m : Tokens) (y : List Listed × Tokens) → ReadsCarried ts m s → carried_nesting s ≤ 200 → plan.listed_after others x s m ≡ Some y → SoundListed (lexeme.Name x l ∷ ts) y
-listed_after-sound others ih x l ts s (lexeme.Key key.Comma k ∷ m) y p f h =
-    let b = bind_ok (others m) _ h in
-    let w = ih m b.0 b.1 in
-    same_found (λ z q. SoundListed (lexeme.Name x l ∷ ts) (z, q)) (record { name = x; value = s } ∷ b.0.0) b.0.1 y b.2 (g.listed_and p w.0, omega (arith, f, w.1))
-listed_after-sound others ih x l ts s m y p f h = same_found (λ z q. SoundListed (lexeme.Name x l ∷ ts) (z, q)) (record { name = x; value = s } ∷ []) m y h (g.last_listed p, omega (arith, f))
-
-listed-sound : (n : ℕ) (ts : Tokens) (y : List Listed × Tokens) → plan.listed n ts ≡ Some y → SoundListed ts y
-unfolding plan.listed
-listed-sound zero ts y h = absurd cc
-listed-sound (suc n) (lexeme.Name x l ∷ m) y h =
-    let b = bind_ok (plan.carried m) _ h in
-    let s = carried-sound m b.0 b.1 in
-    listed_after-sound (plan.listed n) (listed-sound n) x l m b.0.0 b.0.1 y s.0 s.1 b.2
-listed-sound (suc n) _ y h = absurd cc
-
-fields_closed : (m : Tokens) (y : List Named × Tokens) → (fields any_shape (length m) m >>= closed) ≡ Some y → ReadsParams m y.1 y.0 × (deepest (map named_nesting y.0) ≤ 200)
-fields_closed m y h =
-    let c = closed_ok (fields any_shape (length m) m) y h in
-    let s = fields-sound 200 (length m) m (y.0, lexeme.Key key.RParen c.0 ∷ y.1) c.1 in
-    (g.params s.0, s.1)
-
-params-sound : (ts : Tokens) (y : List Named × Tokens) → plan.params ts ≡ Some y → ReadsParams ts y.1 y.0 × (deepest (map named_nesting y.0) ≤ 200)
-params-sound (lexeme.Key key.RParen k ∷ r) y h =
-    same_found (λ z q. ReadsParams (lexeme.Key key.RParen k ∷ r) q z × (deepest (map named_nesting z) ≤ 200)) [] r y h (g.no_params, omega arith)
-params-sound ts y h = fields_closed ts y h
-
-result-sound : (ts : Tokens) (y : Option Shape × Tokens) → plan.result ts ≡ Some y → ReadsResult ts y.1 y.0 × (carried_nesting y.0 ≤ 200)
-result-sound (lexeme.Key key.Returns l ∷ lexeme.Key key.LParen k ∷ m) y h =
-    let b = bind_ok (any_shape m >>= closed) _ h in
-    let s = shape_closed m b.0 b.1 in
-    same_found (λ z q. ReadsResult (lexeme.Key key.Returns l ∷ lexeme.Key key.LParen k ∷ m) q z × (carried_nesting z ≤ 200)) (Some b.0.0) b.0.1 y b.2 (g.result s.1, s.2)
-result-sound ts y h = same_found (λ z q. ReadsResult ts q z × (carried_nesting z ≤ 200)) None ts y h (g.no_result, omega arith)
-
-signals-sound : (ts : Tokens) (y : List Listed × Tokens) → plan.signals ts ≡ Some y → ReadsSignals ts y.1 y.0 × (deepest (map listed_nesting y.0) ≤ 200)
-signals-sound (lexeme.Key key.Signals l ∷ lexeme.Key key.LParen k ∷ m) y h =
-    let c = closed_ok (plan.listed (length m) m) y h in
-    let s = listed-sound (length m) m (y.0, lexeme.Key key.RParen c.0 ∷ y.1) c.1 in
-    (g.signals s.0, s.1)
-signals-sound ts y h = same_found (λ z q. ReadsSignals ts q z × (deepest (map listed_nesting z) ≤ 200)) [] ts y h (g.no_signals, omega arith)
+-- ---- what the parts have in common
 
 -- `end` and this very name
 own_ok : {A : Type 0} (P : A → Tokens → Type 0) (x : List ℕ) (v : A) (ts : Tokens) (y : A × Tokens) → plan.own_name x v ts ≡ Some y →
@@ -129,44 +68,10 @@ own_ok {A} P x v (lexeme.Key key.End l ∷ lexeme.Name z k ∷ r) y h f = go (ch
     go (inr q) = absurd cc
 own_ok P x v _ y h f = absurd cc
 
-routine_of-sound : (x : List ℕ) (l k j h : ℕ) (a : Tokens) (y : Routine × Tokens) → plan.routine_of x l a ≡ Some y →
-    ReadsRoutine (lexeme.Name x l ∷ lexeme.Key key.Equals k ∷ lexeme.Key key.Proc j ∷ lexeme.Key key.LParen h ∷ a) y.1 y.0 × (routine_nesting y.0 ≤ 200)
-routine_of-sound x l k j h a y e =
-    let p = bind_ok (plan.params a) _ e in
-    let t = bind_ok (plan.result p.0.1) _ p.2 in
-    let s = bind_ok (plan.signals t.0.1) _ t.2 in
-    let b = bind_ok (body deepest_tree s.0.1) _ s.2 in
-    let ps = params-sound a p.0 p.1 in
-    let ts = result-sound p.0.1 t.0 t.1 in
-    let ss = signals-sound t.0.1 s.0 s.1 in
-    let bs = body-sound 200 s.0.1 b.0 b.1 in
-    own_ok (λ (v : Routine) (q : Tokens). ReadsRoutine (lexeme.Name x l ∷ lexeme.Key key.Equals k ∷ lexeme.Key key.Proc j ∷ lexeme.Key key.LParen h ∷ a) q v × (routine_nesting v ≤ 200)) x
-    (record { name = x; params = p.0.0; result = t.0.0; signals = s.0.0; body = b.0.0; line = l }) b.0.1 y b.2
-    (λ z m i r f w. (g.routine ps.0 ts.0 ss.0 (subst (λ q. ReadsBody s.0.1 q b.0.0) w bs.0) f, omega (arith, ps.1, ts.1, ss.1, bs.1)))
-
-routine-sound : (ts : Tokens) (y : Routine × Tokens) → plan.routine ts ≡ Some y → ReadsRoutine ts y.1 y.0 × (routine_nesting y.0 ≤ 200)
-unfolding plan.routine
-routine-sound (lexeme.Name x l ∷ lexeme.Key key.Equals k ∷ lexeme.Key key.Proc j ∷ lexeme.Key key.LParen h ∷ a) y e = routine_of-sound x l k j h a y e
-routine-sound _ y e = absurd cc
-
-routines-sound : (n : ℕ) (ts : Tokens) (y : List Routine × Tokens) → plan.routines n ts ≡ Some y → ReadsRoutines ts y.1 y.0 × (deepest (map routine_nesting y.0) ≤ 200)
-unfolding plan.routines
-routines-sound zero ts y h = absurd cc
-routines-sound (suc n) ts y h = go (routines-sound n) (chosen (plan.ends_cluster ts) _ _ h)
-  where
-    go : ((m : Tokens) (z : List Routine × Tokens) → plan.routines n m ≡ Some z → ReadsRoutines m z.1 z.0 × (deepest (map routine_nesting z.0) ≤ 200)) →
-        ((plan.ends_cluster ts ≡ true) × (◌≡◌ {A = Option (List Routine × Tokens)} (Some ([], ts)) (Some y)))
-        ⊎ ((plan.ends_cluster ts ≡ false) × ((plan.routine ts >>= λ x m. plan.routines n m >>= λ xs r. Some (x ∷ xs, r)) ≡ Some y)) →
-        ReadsRoutines ts y.1 y.0 × (deepest (map routine_nesting y.0) ≤ 200)
-    go ih (inl q) = same_found (λ z r. ReadsRoutines ts r z × (deepest (map routine_nesting z) ≤ 200)) [] ts y q.1 (g.no_routines, omega arith)
-    go ih (inr q) =
-        let a = bind_ok (plan.routine ts) _ q.1 in
-        let b = bind_ok (plan.routines n a.0.1) _ a.2 in
-        let s = routine-sound ts a.0 a.1 in
-        let w = ih a.0.1 b.0 b.1 in
-        same_found (λ z r. ReadsRoutines ts r z × (deepest (map routine_nesting z) ≤ 200)) (a.0.0 ∷ b.0.0) b.0.1 y b.2 (g.routine_and s.0 w.0, omega (arith, s.1, w.1))
-
--- ---- parts
+rep_ok : {A : Type 0} (o : Found A) (y : A × Tokens) → (o >>= rep_key) ≡ Some y → (l : ℕ) × (k : ℕ) × (o ≡ Some (y.0, lexeme.Key key.Rep l ∷ lexeme.Key key.Equals k ∷ y.1))
+rep_ok {A} (Some (x, lexeme.Key key.Rep l ∷ lexeme.Key key.Equals k ∷ r)) y h =
+    (l, k, same_found (λ (z : A) (q : Tokens). ◌≡◌ {A = Option (A × Tokens)} (Some (x, lexeme.Key key.Rep l ∷ lexeme.Key key.Equals k ∷ r)) (Some (z, lexeme.Key key.Rep l ∷ lexeme.Key key.Equals k ∷ q))) x r y h refl)
+rep_ok _ y h = absurd cc
 
 node_parts-sound : (n : ℕ) (ts : Tokens) (y : List NodePart × Tokens) → plan.node_parts n ts ≡ Some y → ReadsNodeParts ts y.1 y.0
 unfolding plan.node_parts
@@ -186,101 +91,6 @@ make_ok : {A B : Type 0} (b : Bool) (x : A) (r : Tokens) (f : A → Parser B) (y
 make_ok true x r f y h = (refl, h)
 make_ok false x r f y h = absurd cc
 
-lock-sound : (l : ℕ) (m : Tokens) (y : Initial × Tokens) → (plan.behind_make (codes "create") n.Lock m >>= plan.created) ≡ Some y → ReadsInitial (lexeme.Key key.Lock l ∷ m) y.1 y.0 × (initial_nesting (Some y.0) ≤ 200)
-lock-sound l (lexeme.Key key.Dollar k ∷ lexeme.Name x j ∷ lexeme.Key key.LParen i ∷ lexeme.Key key.RParen u ∷ r) y h =
-    let w = make_ok (bytes_eq x (codes "create")) n.Lock (lexeme.Key key.RParen u ∷ r) plan.created y h in
-    same_found (λ z q. ReadsInitial (lexeme.Key key.Lock l ∷ lexeme.Key key.Dollar k ∷ lexeme.Name x j ∷ lexeme.Key key.LParen i ∷ lexeme.Key key.RParen u ∷ r) q z × (initial_nesting (Some z) ≤ 200)) n.Lock r y w.1
-    (g.from_lock ((bytes_eq-Decides x (codes "create")).0 w.0), omega arith)
-lock-sound l (lexeme.Key key.Dollar k ∷ lexeme.Name x j ∷ lexeme.Key key.LParen i ∷ m) y h = let w = make_ok (bytes_eq x (codes "create")) n.Lock m plan.created y h in absurd cc
-lock-sound l _ y h = absurd cc
-
-semaphore-sound : (l : ℕ) (m : Tokens) (y : Initial × Tokens) → (plan.behind_make (codes "create") n.Lock m >>= λ _. plan.semaphore_of) ≡ Some y → ReadsInitial (lexeme.Key key.Semaphore l ∷ m) y.1 y.0 × (initial_nesting (Some y.0) ≤ 200)
-semaphore-sound l (lexeme.Key key.Dollar k ∷ lexeme.Name x j ∷ lexeme.Key key.LParen i ∷ lexeme.Int v e ∷ lexeme.Key key.RParen u ∷ r) y h =
-    let w = make_ok (bytes_eq x (codes "create")) n.Lock (lexeme.Int v e ∷ lexeme.Key key.RParen u ∷ r) (λ _. plan.semaphore_of) y h in
-    same_found (λ z q. ReadsInitial (lexeme.Key key.Semaphore l ∷ lexeme.Key key.Dollar k ∷ lexeme.Name x j ∷ lexeme.Key key.LParen i ∷ lexeme.Int v e ∷ lexeme.Key key.RParen u ∷ r) q z × (initial_nesting (Some z) ≤ 200)) (n.Semaphore v) r y w.1
-    (g.from_semaphore ((bytes_eq-Decides x (codes "create")).0 w.0), omega arith)
-semaphore-sound l (lexeme.Key key.Dollar k ∷ lexeme.Name x j ∷ lexeme.Key key.LParen i ∷ m) y h = let w = make_ok (bytes_eq x (codes "create")) n.Lock m (λ _. plan.semaphore_of) y h in absurd cc
-semaphore-sound l _ y h = absurd cc
-
-empty-sound : (l k j : ℕ) (a : Tokens) (s : Shape) (m : Tokens) (y : Initial × Tokens) → ReadsShape a (lexeme.Key key.RBracket j ∷ m) s → shape_nesting s ≤ 200 →
-    (plan.behind_make (codes "new") s m >>= λ t. plan.created (n.Empty t)) ≡ Some y → ReadsInitial (lexeme.Key key.Array l ∷ lexeme.Key key.LBracket k ∷ a) y.1 y.0 × (initial_nesting (Some y.0) ≤ 200)
-empty-sound l k j a s (lexeme.Key key.Dollar h ∷ lexeme.Name x i ∷ lexeme.Key key.LParen u ∷ lexeme.Key key.RParen v ∷ r) y p f e =
-    let w = make_ok (bytes_eq x (codes "new")) s (lexeme.Key key.RParen v ∷ r) (λ t. plan.created (n.Empty t)) y e in
-    same_found (λ z q. ReadsInitial (lexeme.Key key.Array l ∷ lexeme.Key key.LBracket k ∷ a) q z × (initial_nesting (Some z) ≤ 200)) (n.Empty s) r y w.1 (g.from_array ((bytes_eq-Decides x (codes "new")).0 w.0) p, f)
-empty-sound l k j a s (lexeme.Key key.Dollar h ∷ lexeme.Name x i ∷ lexeme.Key key.LParen u ∷ m) y p f e = let w = make_ok (bytes_eq x (codes "new")) s m (λ t. plan.created (n.Empty t)) y e in absurd cc
-empty-sound l k j a s _ y p f e = absurd cc
-
-array-sound : (l k : ℕ) (a : Tokens) (y : Initial × Tokens) → (any_shape a >>= bracketed >>= plan.behind_make (codes "new") >>= λ t. plan.created (n.Empty t)) ≡ Some y →
-    ReadsInitial (lexeme.Key key.Array l ∷ lexeme.Key key.LBracket k ∷ a) y.1 y.0 × (initial_nesting (Some y.0) ≤ 200)
-array-sound l k a y h =
-    let b = bind_ok (any_shape a >>= bracketed >>= plan.behind_make (codes "new")) (λ t. plan.created (n.Empty t)) h in
-    let c = bind_ok (any_shape a >>= bracketed) (plan.behind_make (codes "new")) b.1 in
-    let d = bracketed_ok (any_shape a) c.0 c.1 in
-    let s = any_shape-sound a (c.0.0, lexeme.Key key.RBracket d.0 ∷ c.0.1) d.1 in
-    empty-sound l k d.0 a c.0.0 c.0.1 y s.0 s.1 (bind_some c.2 (λ t. plan.created (n.Empty t)) ∙ b.2)
-
-signed_initial : (ts : Tokens) (y : Initial × Tokens) → (plan.signed_at ts >>= λ x r. Some (n.Literal x, r)) ≡ Some y → ReadsInitial ts y.1 y.0 × (initial_nesting (Some y.0) ≤ 200)
-signed_initial ts y h =
-    let b = bind_ok (plan.signed_at ts) _ h in
-    same_found (λ z q. ReadsInitial ts q z × (initial_nesting (Some z) ≤ 200)) (n.Literal b.0.0) b.0.1 y b.2 (g.from_literal (signed-sound ts b.0 b.1), omega arith)
-
-initial-sound : (ts : Tokens) (y : Initial × Tokens) → plan.initial ts ≡ Some y → ReadsInitial ts y.1 y.0 × (initial_nesting (Some y.0) ≤ 200)
-initial-sound (lexeme.Key key.Lock l ∷ m) y h = lock-sound l m y h
-initial-sound (lexeme.Key key.Semaphore l ∷ m) y h = semaphore-sound l m y h
-initial-sound (lexeme.Key key.Array l ∷ lexeme.Key key.LBracket k ∷ m) y h = array-sound l k m y h
-initial-sound ts y h = signed_initial ts y h
-
-abbrev SoundPart : Tokens → Part × Tokens → Type 0
-SoundPart ts y = ReadsPart ts y.1 y.0 × (part_nesting y.0 ≤ 200)
-
-node_var_of-sound : (x : List ℕ) (l k j : ℕ) (m : Tokens) (s : Shape) (q : Tokens) (y : Part × Tokens) → ReadsShape m q s → shape_nesting s ≤ 200 → plan.node_var_of x l s q ≡ Some y →
-    SoundPart (lexeme.Key key.Nodevar l ∷ lexeme.Name x k ∷ lexeme.Key key.Colon j ∷ m) y
-node_var_of-sound x l k j m s (lexeme.Key key.Becomes i ∷ q) y p f h =
-    let b = bind_ok (plan.initial q) _ h in
-    let w = initial-sound q b.0 b.1 in
-    same_found (λ z q. SoundPart (lexeme.Key key.Nodevar l ∷ lexeme.Name x k ∷ lexeme.Key key.Colon j ∷ m) (z, q)) (ANodeVar (record { name = x; shape = s; first = Some b.0.0; line = l })) b.0.1 y b.2
-    (g.node_var_as p w.0, omega (arith, f, w.1))
-node_var_of-sound x l k j m s q y p f h =
-    same_found (λ z q. SoundPart (lexeme.Key key.Nodevar l ∷ lexeme.Name x k ∷ lexeme.Key key.Colon j ∷ m) (z, q)) (ANodeVar (record { name = x; shape = s; first = None; line = l })) q y h (g.node_var p, omega (arith, f))
-
-rep_ok : {A : Type 0} (o : Found A) (y : A × Tokens) → (o >>= rep_key) ≡ Some y → (l : ℕ) × (k : ℕ) × (o ≡ Some (y.0, lexeme.Key key.Rep l ∷ lexeme.Key key.Equals k ∷ y.1))
-rep_ok {A} (Some (x, lexeme.Key key.Rep l ∷ lexeme.Key key.Equals k ∷ r)) y h =
-    (l, k, same_found (λ (z : A) (q : Tokens). ◌≡◌ {A = Option (A × Tokens)} (Some (x, lexeme.Key key.Rep l ∷ lexeme.Key key.Equals k ∷ r)) (Some (z, lexeme.Key key.Rep l ∷ lexeme.Key key.Equals k ∷ q))) x r y h refl)
-rep_ok _ y h = absurd cc
-
-cluster_of-sound : (x : List ℕ) (l k j h : ℕ) (a : Tokens) (y : Part × Tokens) → plan.cluster_of x l a ≡ Some y → SoundPart (lexeme.Name x l ∷ lexeme.Key key.Equals k ∷ lexeme.Key key.Cluster j ∷ lexeme.Key key.Is h ∷ a) y
-cluster_of-sound x l k j h a y e =
-    let b = bind_ok (names (length a) a >>= rep_key) _ e in
-    let c = rep_ok (names (length a) a) b.0 b.1 in
-    let t = bind_ok (any_shape b.0.1) _ b.2 in
-    let u = bind_ok (plan.routines (suc (length t.0.1)) t.0.1) _ t.2 in
-    let xs = names-sound (length a) a (b.0.0, lexeme.Key key.Rep c.0 ∷ lexeme.Key key.Equals c.1 ∷ b.0.1) c.2 in
-    let s = any_shape-sound b.0.1 t.0 t.1 in
-    let rs = routines-sound (suc (length t.0.1)) t.0.1 u.0 u.1 in
-    own_ok (λ (v : Part) (q : Tokens). SoundPart (lexeme.Name x l ∷ lexeme.Key key.Equals k ∷ lexeme.Key key.Cluster j ∷ lexeme.Key key.Is h ∷ a) (v, q)) x (ACluster x b.0.0 t.0.0 u.0.0 l) u.0.1 y u.2
-    (λ z m i r f w. (g.cluster xs s.0 (subst (λ q. ReadsRoutines t.0.1 q u.0.0) w rs.0) f, omega (arith, s.1, rs.1)))
-
-part-sound : (ts : Tokens) (y : Part × Tokens) → plan.part ts ≡ Some y → SoundPart ts y
-unfolding plan.part
-part-sound (lexeme.Key key.Nodevar l ∷ lexeme.Name x k ∷ lexeme.Key key.Colon j ∷ m) y h =
-    let b = bind_ok (any_shape m) _ h in
-    let s = any_shape-sound m b.0 b.1 in
-    node_var_of-sound x l k j m b.0.0 b.0.1 y s.0 s.1 b.2
-part-sound (lexeme.Key key.Node l ∷ lexeme.Int x k ∷ lexeme.Key key.Is j ∷ m) y h =
-    let b = bind_ok (plan.node_parts (suc (length m)) m) _ h in
-    same_found (λ z q. SoundPart (lexeme.Key key.Node l ∷ lexeme.Int x k ∷ lexeme.Key key.Is j ∷ m) (z, q)) (ANode (record { number = x; parts = b.0.0; line = l })) b.0.1 y b.2
-    (g.node (node_parts-sound (suc (length m)) m b.0 b.1), omega arith)
-part-sound (lexeme.Name x l ∷ lexeme.Key key.Equals k ∷ lexeme.Key key.Proc j ∷ lexeme.Key key.LParen i ∷ m) y h =
-    let b = bind_ok (plan.routine_of x l m) _ h in
-    let s = routine_of-sound x l k j i m b.0 b.1 in
-    same_found (λ z q. SoundPart (lexeme.Name x l ∷ lexeme.Key key.Equals k ∷ lexeme.Key key.Proc j ∷ lexeme.Key key.LParen i ∷ m) (z, q)) (ARoutine b.0.0) b.0.1 y b.2 (g.a_routine s.0, s.1)
-part-sound (lexeme.Name x l ∷ lexeme.Key key.Equals k ∷ lexeme.Key key.Cluster j ∷ lexeme.Key key.Is i ∷ m) y h = cluster_of-sound x l k j i m y h
-part-sound (lexeme.Name x l ∷ lexeme.Key key.Equals k ∷ m) y h =
-    let b = bind_ok (any_shape m) _ h in
-    let s = any_shape-sound m b.0 b.1 in
-    same_found (λ z q. SoundPart (lexeme.Name x l ∷ lexeme.Key key.Equals k ∷ m) (z, q)) (AnEquate (record { name = x; shape = b.0.0; line = l })) b.0.1 y b.2 (g.equate s.0, s.1)
-part-sound _ y h = absurd cc
-
 before_ok : (P : List Part → Type 0) (x : Part) (o : Option (List Part)) (xs : List Part) → plan.part_before x o ≡ Some xs → ((ys : List Part) → o ≡ Some ys → P (x ∷ ys)) → P xs
 before_ok P x (Some ys) xs h f = let same : ◌≡◌ {A = List Part} (x ∷ ys) xs = cc in subst P same (f ys refl)
 before_ok P x None xs h f = absurd cc
@@ -290,29 +100,227 @@ after_ok : (P : List Part → Type 0) (others : Tokens → Option (List Part)) (
 after_ok P others (Some x) xs h f = before_ok P x.0 (others x.1) xs h (λ ys e. f x ys refl e)
 after_ok P others None xs h f = absurd cc
 
-abbrev SoundParts : Tokens → List Part → Type 0
-SoundParts ts xs = ReadsParts ts xs × (deepest (map part_nesting xs) ≤ 200)
+-- ---- with types and bodies of at most so many levels
 
-all-sound : (xs : List Part) → ◌≡◌ {A = Option (List Part)} (Some []) (Some xs) → SoundParts [] xs
-all-sound xs h = let same : ◌≡◌ {A = List Part} [] xs = cc in subst (SoundParts []) same (g.no_parts, omega arith)
+module _ (deep : ℕ) where
+  type-sound : (ts : Tokens) (y : Shape × Tokens) → shape deep ts ≡ Some y → ReadsShape ts y.1 y.0 × (shape_nesting y.0 ≤ deep)
+  type-sound ts y h = shape-sound deep ts y h
 
-parts-sound : (n : ℕ) (ts : Tokens) (xs : List Part) → plan.parts n ts ≡ Some xs → SoundParts ts xs
-unfolding plan.parts
-parts-sound zero [] xs h = all-sound xs h
-parts-sound (suc n) [] xs h = all-sound xs h
-parts-sound zero (t ∷ ts) xs h = absurd cc
-parts-sound (suc n) (t ∷ ts) xs h =
-    after_ok (SoundParts (t ∷ ts)) (plan.parts n) (plan.part (t ∷ ts)) xs h
-    (λ x ys e w. let s = part-sound (t ∷ ts) x e in let v = parts-sound n x.1 ys w in (g.part_and s.0 v.0, omega (arith, s.1, v.1)))
+  shape_closed : (m : Tokens) (y : Shape × Tokens) → (shape deep m >>= closed) ≡ Some y → (n : ℕ) × ReadsShape m (lexeme.Key key.RParen n ∷ y.1) y.0 × (shape_nesting y.0 ≤ deep)
+  shape_closed m y h =
+      let c = closed_ok (shape deep m) y h in
+      let s = type-sound m (y.0, lexeme.Key key.RParen c.0 ∷ y.1) c.1 in
+      (c.0, s.0, s.1)
 
-made-sound : (ts : Tokens) (o : Option (List Part)) (p : Program) → ((xs : List Part) → o ≡ Some xs → SoundParts ts xs) → plan.made_of o ≡ Some p → ReadsProgram ts p × (program_nesting p ≤ 200)
-made-sound ts (Some xs) p f h =
-    let same : ◌≡◌ {A = Program} (program_of empty_program xs) p = cc in
-    let s = f xs refl in
-    let deep : program_nesting (program_of empty_program xs) ≤ 200 = omega (arith, s.1, nests-Program xs) in
-    (record { parts = xs; read = s.0; made = sym same }, subst (λ z. program_nesting z ≤ 200) same deep)
-made-sound ts None p f h = absurd cc
+  -- ---- routines
 
--- A program that is found is read so, and is deep enough.
+  carried-sound : (ts : Tokens) (y : Option Shape × Tokens) → plan.carried deep ts ≡ Some y → ReadsCarried ts y.1 y.0 × (carried_nesting y.0 ≤ deep)
+  carried-sound (lexeme.Key key.LParen l ∷ m) y h =
+      let b = bind_ok (shape deep m >>= closed) _ h in
+      let s = shape_closed m b.0 b.1 in
+      same_found (λ z q. ReadsCarried (lexeme.Key key.LParen l ∷ m) q z × (carried_nesting z ≤ deep)) (Some b.0.0) b.0.1 y b.2 (g.value s.1, s.2)
+  carried-sound ts y h = same_found (λ z q. ReadsCarried ts q z × (carried_nesting z ≤ deep)) None ts y h (g.no_value, omega arith)
+
+  abbrev SoundListed : Tokens → List Listed × Tokens → Type 0
+  SoundListed ts y = ReadsListed ts y.1 y.0 × (deepest (map listed_nesting y.0) ≤ deep)
+
+  listed_after-sound : (others : Parser (List Listed)) → ((m : Tokens) (z : List Listed × Tokens) → others m ≡ Some z → SoundListed m z) →
+      (x : List ℕ) (l : ℕ) (ts : Tokens) (s : Option Shape) (m : Tokens) (y : List Listed × Tokens) → ReadsCarried ts m s → carried_nesting s ≤ deep → plan.listed_after others x s m ≡ Some y → SoundListed (lexeme.Name x l ∷ ts) y
+  listed_after-sound others ih x l ts s (lexeme.Key key.Comma k ∷ m) y p f h =
+      let b = bind_ok (others m) _ h in
+      let w = ih m b.0 b.1 in
+      same_found (λ z q. SoundListed (lexeme.Name x l ∷ ts) (z, q)) (record { name = x; value = s } ∷ b.0.0) b.0.1 y b.2 (g.listed_and p w.0, omega (arith, f, w.1))
+  listed_after-sound others ih x l ts s m y p f h = same_found (λ z q. SoundListed (lexeme.Name x l ∷ ts) (z, q)) (record { name = x; value = s } ∷ []) m y h (g.last_listed p, omega (arith, f))
+
+  listed-sound : (n : ℕ) (ts : Tokens) (y : List Listed × Tokens) → plan.listed deep n ts ≡ Some y → SoundListed ts y
+  unfolding plan.listed
+  listed-sound zero ts y h = absurd cc
+  listed-sound (suc n) (lexeme.Name x l ∷ m) y h =
+      let b = bind_ok (plan.carried deep m) _ h in
+      let s = carried-sound m b.0 b.1 in
+      listed_after-sound (plan.listed deep n) (listed-sound n) x l m b.0.0 b.0.1 y s.0 s.1 b.2
+  listed-sound (suc n) _ y h = absurd cc
+
+  fields_closed : (m : Tokens) (y : List Named × Tokens) → (fields (shape deep) (length m) m >>= closed) ≡ Some y → ReadsParams m y.1 y.0 × (deepest (map named_nesting y.0) ≤ deep)
+  fields_closed m y h =
+      let c = closed_ok (fields (shape deep) (length m) m) y h in
+      let s = fields-sound deep (length m) m (y.0, lexeme.Key key.RParen c.0 ∷ y.1) c.1 in
+      (g.params s.0, s.1)
+
+  params-sound : (ts : Tokens) (y : List Named × Tokens) → plan.params deep ts ≡ Some y → ReadsParams ts y.1 y.0 × (deepest (map named_nesting y.0) ≤ deep)
+  params-sound (lexeme.Key key.RParen k ∷ r) y h =
+      same_found (λ z q. ReadsParams (lexeme.Key key.RParen k ∷ r) q z × (deepest (map named_nesting z) ≤ deep)) [] r y h (g.no_params, omega arith)
+  params-sound ts y h = fields_closed ts y h
+
+  result-sound : (ts : Tokens) (y : Option Shape × Tokens) → plan.result deep ts ≡ Some y → ReadsResult ts y.1 y.0 × (carried_nesting y.0 ≤ deep)
+  result-sound (lexeme.Key key.Returns l ∷ lexeme.Key key.LParen k ∷ m) y h =
+      let b = bind_ok (shape deep m >>= closed) _ h in
+      let s = shape_closed m b.0 b.1 in
+      same_found (λ z q. ReadsResult (lexeme.Key key.Returns l ∷ lexeme.Key key.LParen k ∷ m) q z × (carried_nesting z ≤ deep)) (Some b.0.0) b.0.1 y b.2 (g.result s.1, s.2)
+  result-sound ts y h = same_found (λ z q. ReadsResult ts q z × (carried_nesting z ≤ deep)) None ts y h (g.no_result, omega arith)
+
+  signals-sound : (ts : Tokens) (y : List Listed × Tokens) → plan.signals deep ts ≡ Some y → ReadsSignals ts y.1 y.0 × (deepest (map listed_nesting y.0) ≤ deep)
+  signals-sound (lexeme.Key key.Signals l ∷ lexeme.Key key.LParen k ∷ m) y h =
+      let c = closed_ok (plan.listed deep (length m) m) y h in
+      let s = listed-sound (length m) m (y.0, lexeme.Key key.RParen c.0 ∷ y.1) c.1 in
+      (g.signals s.0, s.1)
+  signals-sound ts y h = same_found (λ z q. ReadsSignals ts q z × (deepest (map listed_nesting z) ≤ deep)) [] ts y h (g.no_signals, omega arith)
+
+  routine_of-sound : (x : List ℕ) (l k j h : ℕ) (a : Tokens) (y : Routine × Tokens) → plan.routine_of deep x l a ≡ Some y →
+      ReadsRoutine (lexeme.Name x l ∷ lexeme.Key key.Equals k ∷ lexeme.Key key.Proc j ∷ lexeme.Key key.LParen h ∷ a) y.1 y.0 × (routine_nesting y.0 ≤ deep)
+  routine_of-sound x l k j h a y e =
+      let p = bind_ok (plan.params deep a) _ e in
+      let t = bind_ok (plan.result deep p.0.1) _ p.2 in
+      let s = bind_ok (plan.signals deep t.0.1) _ t.2 in
+      let b = bind_ok (body deep s.0.1) _ s.2 in
+      let ps = params-sound a p.0 p.1 in
+      let ts = result-sound p.0.1 t.0 t.1 in
+      let ss = signals-sound t.0.1 s.0 s.1 in
+      let bs = body-sound deep s.0.1 b.0 b.1 in
+      own_ok (λ (v : Routine) (q : Tokens). ReadsRoutine (lexeme.Name x l ∷ lexeme.Key key.Equals k ∷ lexeme.Key key.Proc j ∷ lexeme.Key key.LParen h ∷ a) q v × (routine_nesting v ≤ deep)) x
+      (record { name = x; params = p.0.0; result = t.0.0; signals = s.0.0; body = b.0.0; line = l }) b.0.1 y b.2
+      (λ z m i r f w. (g.routine ps.0 ts.0 ss.0 (subst (λ q. ReadsBody s.0.1 q b.0.0) w bs.0) f, omega (arith, ps.1, ts.1, ss.1, bs.1)))
+
+  routine-sound : (ts : Tokens) (y : Routine × Tokens) → plan.routine deep ts ≡ Some y → ReadsRoutine ts y.1 y.0 × (routine_nesting y.0 ≤ deep)
+  unfolding plan.routine
+  routine-sound (lexeme.Name x l ∷ lexeme.Key key.Equals k ∷ lexeme.Key key.Proc j ∷ lexeme.Key key.LParen h ∷ a) y e = routine_of-sound x l k j h a y e
+  routine-sound _ y e = absurd cc
+
+  routines-sound : (n : ℕ) (ts : Tokens) (y : List Routine × Tokens) → plan.routines deep n ts ≡ Some y → ReadsRoutines ts y.1 y.0 × (deepest (map routine_nesting y.0) ≤ deep)
+  unfolding plan.routines
+  routines-sound zero ts y h = absurd cc
+  routines-sound (suc n) ts y h = go (routines-sound n) (chosen (plan.ends_cluster ts) _ _ h)
+    where
+      go : ((m : Tokens) (z : List Routine × Tokens) → plan.routines deep n m ≡ Some z → ReadsRoutines m z.1 z.0 × (deepest (map routine_nesting z.0) ≤ deep)) →
+          ((plan.ends_cluster ts ≡ true) × (◌≡◌ {A = Option (List Routine × Tokens)} (Some ([], ts)) (Some y)))
+          ⊎ ((plan.ends_cluster ts ≡ false) × ((plan.routine deep ts >>= λ x m. plan.routines deep n m >>= λ xs r. Some (x ∷ xs, r)) ≡ Some y)) →
+          ReadsRoutines ts y.1 y.0 × (deepest (map routine_nesting y.0) ≤ deep)
+      go ih (inl q) = same_found (λ z r. ReadsRoutines ts r z × (deepest (map routine_nesting z) ≤ deep)) [] ts y q.1 (g.no_routines, omega arith)
+      go ih (inr q) =
+          let a = bind_ok (plan.routine deep ts) _ q.1 in
+          let b = bind_ok (plan.routines deep n a.0.1) _ a.2 in
+          let s = routine-sound ts a.0 a.1 in
+          let w = ih a.0.1 b.0 b.1 in
+          same_found (λ z r. ReadsRoutines ts r z × (deepest (map routine_nesting z) ≤ deep)) (a.0.0 ∷ b.0.0) b.0.1 y b.2 (g.routine_and s.0 w.0, omega (arith, s.1, w.1))
+
+  -- ---- parts
+
+  lock-sound : (l : ℕ) (m : Tokens) (y : Initial × Tokens) → (plan.behind_make (codes "create") n.Lock m >>= plan.created) ≡ Some y → ReadsInitial (lexeme.Key key.Lock l ∷ m) y.1 y.0 × (initial_nesting (Some y.0) ≤ deep)
+  lock-sound l (lexeme.Key key.Dollar k ∷ lexeme.Name x j ∷ lexeme.Key key.LParen i ∷ lexeme.Key key.RParen u ∷ r) y h =
+      let w = make_ok (bytes_eq x (codes "create")) n.Lock (lexeme.Key key.RParen u ∷ r) plan.created y h in
+      same_found (λ z q. ReadsInitial (lexeme.Key key.Lock l ∷ lexeme.Key key.Dollar k ∷ lexeme.Name x j ∷ lexeme.Key key.LParen i ∷ lexeme.Key key.RParen u ∷ r) q z × (initial_nesting (Some z) ≤ deep)) n.Lock r y w.1
+      (g.from_lock ((bytes_eq-Decides x (codes "create")).0 w.0), omega arith)
+  lock-sound l (lexeme.Key key.Dollar k ∷ lexeme.Name x j ∷ lexeme.Key key.LParen i ∷ m) y h = let w = make_ok (bytes_eq x (codes "create")) n.Lock m plan.created y h in absurd cc
+  lock-sound l _ y h = absurd cc
+
+  semaphore-sound : (l : ℕ) (m : Tokens) (y : Initial × Tokens) → (plan.behind_make (codes "create") n.Lock m >>= λ _. plan.semaphore_of) ≡ Some y → ReadsInitial (lexeme.Key key.Semaphore l ∷ m) y.1 y.0 × (initial_nesting (Some y.0) ≤ deep)
+  semaphore-sound l (lexeme.Key key.Dollar k ∷ lexeme.Name x j ∷ lexeme.Key key.LParen i ∷ lexeme.Int v e ∷ lexeme.Key key.RParen u ∷ r) y h =
+      let w = make_ok (bytes_eq x (codes "create")) n.Lock (lexeme.Int v e ∷ lexeme.Key key.RParen u ∷ r) (λ _. plan.semaphore_of) y h in
+      same_found (λ z q. ReadsInitial (lexeme.Key key.Semaphore l ∷ lexeme.Key key.Dollar k ∷ lexeme.Name x j ∷ lexeme.Key key.LParen i ∷ lexeme.Int v e ∷ lexeme.Key key.RParen u ∷ r) q z × (initial_nesting (Some z) ≤ deep)) (n.Semaphore v) r y w.1
+      (g.from_semaphore ((bytes_eq-Decides x (codes "create")).0 w.0), omega arith)
+  semaphore-sound l (lexeme.Key key.Dollar k ∷ lexeme.Name x j ∷ lexeme.Key key.LParen i ∷ m) y h = let w = make_ok (bytes_eq x (codes "create")) n.Lock m (λ _. plan.semaphore_of) y h in absurd cc
+  semaphore-sound l _ y h = absurd cc
+
+  empty-sound : (l k j : ℕ) (a : Tokens) (s : Shape) (m : Tokens) (y : Initial × Tokens) → ReadsShape a (lexeme.Key key.RBracket j ∷ m) s → shape_nesting s ≤ deep →
+      (plan.behind_make (codes "new") s m >>= λ t. plan.created (n.Empty t)) ≡ Some y → ReadsInitial (lexeme.Key key.Array l ∷ lexeme.Key key.LBracket k ∷ a) y.1 y.0 × (initial_nesting (Some y.0) ≤ deep)
+  empty-sound l k j a s (lexeme.Key key.Dollar h ∷ lexeme.Name x i ∷ lexeme.Key key.LParen u ∷ lexeme.Key key.RParen v ∷ r) y p f e =
+      let w = make_ok (bytes_eq x (codes "new")) s (lexeme.Key key.RParen v ∷ r) (λ t. plan.created (n.Empty t)) y e in
+      same_found (λ z q. ReadsInitial (lexeme.Key key.Array l ∷ lexeme.Key key.LBracket k ∷ a) q z × (initial_nesting (Some z) ≤ deep)) (n.Empty s) r y w.1 (g.from_array ((bytes_eq-Decides x (codes "new")).0 w.0) p, f)
+  empty-sound l k j a s (lexeme.Key key.Dollar h ∷ lexeme.Name x i ∷ lexeme.Key key.LParen u ∷ m) y p f e = let w = make_ok (bytes_eq x (codes "new")) s m (λ t. plan.created (n.Empty t)) y e in absurd cc
+  empty-sound l k j a s _ y p f e = absurd cc
+
+  array-sound : (l k : ℕ) (a : Tokens) (y : Initial × Tokens) → (shape deep a >>= bracketed >>= plan.behind_make (codes "new") >>= λ t. plan.created (n.Empty t)) ≡ Some y →
+      ReadsInitial (lexeme.Key key.Array l ∷ lexeme.Key key.LBracket k ∷ a) y.1 y.0 × (initial_nesting (Some y.0) ≤ deep)
+  array-sound l k a y h =
+      let b = bind_ok (shape deep a >>= bracketed >>= plan.behind_make (codes "new")) (λ t. plan.created (n.Empty t)) h in
+      let c = bind_ok (shape deep a >>= bracketed) (plan.behind_make (codes "new")) b.1 in
+      let d = bracketed_ok (shape deep a) c.0 c.1 in
+      let s = type-sound a (c.0.0, lexeme.Key key.RBracket d.0 ∷ c.0.1) d.1 in
+      empty-sound l k d.0 a c.0.0 c.0.1 y s.0 s.1 (bind_some c.2 (λ t. plan.created (n.Empty t)) ∙ b.2)
+
+  signed_initial : (ts : Tokens) (y : Initial × Tokens) → (plan.signed_at ts >>= λ x r. Some (n.Literal x, r)) ≡ Some y → ReadsInitial ts y.1 y.0 × (initial_nesting (Some y.0) ≤ deep)
+  signed_initial ts y h =
+      let b = bind_ok (plan.signed_at ts) _ h in
+      same_found (λ z q. ReadsInitial ts q z × (initial_nesting (Some z) ≤ deep)) (n.Literal b.0.0) b.0.1 y b.2 (g.from_literal (signed-sound ts b.0 b.1), omega arith)
+
+  initial-sound : (ts : Tokens) (y : Initial × Tokens) → plan.initial deep ts ≡ Some y → ReadsInitial ts y.1 y.0 × (initial_nesting (Some y.0) ≤ deep)
+  initial-sound (lexeme.Key key.Lock l ∷ m) y h = lock-sound l m y h
+  initial-sound (lexeme.Key key.Semaphore l ∷ m) y h = semaphore-sound l m y h
+  initial-sound (lexeme.Key key.Array l ∷ lexeme.Key key.LBracket k ∷ m) y h = array-sound l k m y h
+  initial-sound ts y h = signed_initial ts y h
+
+  abbrev SoundPart : Tokens → Part × Tokens → Type 0
+  SoundPart ts y = ReadsPart ts y.1 y.0 × (part_nesting y.0 ≤ deep)
+
+  node_var_of-sound : (x : List ℕ) (l k j : ℕ) (m : Tokens) (s : Shape) (q : Tokens) (y : Part × Tokens) → ReadsShape m q s → shape_nesting s ≤ deep → plan.node_var_of deep x l s q ≡ Some y →
+      SoundPart (lexeme.Key key.Nodevar l ∷ lexeme.Name x k ∷ lexeme.Key key.Colon j ∷ m) y
+  node_var_of-sound x l k j m s (lexeme.Key key.Becomes i ∷ q) y p f h =
+      let b = bind_ok (plan.initial deep q) _ h in
+      let w = initial-sound q b.0 b.1 in
+      same_found (λ z q. SoundPart (lexeme.Key key.Nodevar l ∷ lexeme.Name x k ∷ lexeme.Key key.Colon j ∷ m) (z, q)) (ANodeVar (record { name = x; shape = s; first = Some b.0.0; line = l })) b.0.1 y b.2
+      (g.node_var_as p w.0, omega (arith, f, w.1))
+  node_var_of-sound x l k j m s q y p f h =
+      same_found (λ z q. SoundPart (lexeme.Key key.Nodevar l ∷ lexeme.Name x k ∷ lexeme.Key key.Colon j ∷ m) (z, q)) (ANodeVar (record { name = x; shape = s; first = None; line = l })) q y h (g.node_var p, omega (arith, f))
+
+  cluster_of-sound : (x : List ℕ) (l k j h : ℕ) (a : Tokens) (y : Part × Tokens) → plan.cluster_of deep x l a ≡ Some y → SoundPart (lexeme.Name x l ∷ lexeme.Key key.Equals k ∷ lexeme.Key key.Cluster j ∷ lexeme.Key key.Is h ∷ a) y
+  cluster_of-sound x l k j h a y e =
+      let b = bind_ok (names (length a) a >>= rep_key) _ e in
+      let c = rep_ok (names (length a) a) b.0 b.1 in
+      let t = bind_ok (shape deep b.0.1) _ b.2 in
+      let u = bind_ok (plan.routines deep (suc (length t.0.1)) t.0.1) _ t.2 in
+      let xs = names-sound (length a) a (b.0.0, lexeme.Key key.Rep c.0 ∷ lexeme.Key key.Equals c.1 ∷ b.0.1) c.2 in
+      let s = type-sound b.0.1 t.0 t.1 in
+      let rs = routines-sound (suc (length t.0.1)) t.0.1 u.0 u.1 in
+      own_ok (λ (v : Part) (q : Tokens). SoundPart (lexeme.Name x l ∷ lexeme.Key key.Equals k ∷ lexeme.Key key.Cluster j ∷ lexeme.Key key.Is h ∷ a) (v, q)) x (ACluster x b.0.0 t.0.0 u.0.0 l) u.0.1 y u.2
+      (λ z m i r f w. (g.cluster xs s.0 (subst (λ q. ReadsRoutines t.0.1 q u.0.0) w rs.0) f, omega (arith, s.1, rs.1)))
+
+  part-sound : (ts : Tokens) (y : Part × Tokens) → plan.part deep ts ≡ Some y → SoundPart ts y
+  unfolding plan.part
+  part-sound (lexeme.Key key.Nodevar l ∷ lexeme.Name x k ∷ lexeme.Key key.Colon j ∷ m) y h =
+      let b = bind_ok (shape deep m) _ h in
+      let s = type-sound m b.0 b.1 in
+      node_var_of-sound x l k j m b.0.0 b.0.1 y s.0 s.1 b.2
+  part-sound (lexeme.Key key.Node l ∷ lexeme.Int x k ∷ lexeme.Key key.Is j ∷ m) y h =
+      let b = bind_ok (plan.node_parts (suc (length m)) m) _ h in
+      same_found (λ z q. SoundPart (lexeme.Key key.Node l ∷ lexeme.Int x k ∷ lexeme.Key key.Is j ∷ m) (z, q)) (ANode (record { number = x; parts = b.0.0; line = l })) b.0.1 y b.2
+      (g.node (node_parts-sound (suc (length m)) m b.0 b.1), omega arith)
+  part-sound (lexeme.Name x l ∷ lexeme.Key key.Equals k ∷ lexeme.Key key.Proc j ∷ lexeme.Key key.LParen i ∷ m) y h =
+      let b = bind_ok (plan.routine_of deep x l m) _ h in
+      let s = routine_of-sound x l k j i m b.0 b.1 in
+      same_found (λ z q. SoundPart (lexeme.Name x l ∷ lexeme.Key key.Equals k ∷ lexeme.Key key.Proc j ∷ lexeme.Key key.LParen i ∷ m) (z, q)) (ARoutine b.0.0) b.0.1 y b.2 (g.a_routine s.0, s.1)
+  part-sound (lexeme.Name x l ∷ lexeme.Key key.Equals k ∷ lexeme.Key key.Cluster j ∷ lexeme.Key key.Is i ∷ m) y h = cluster_of-sound x l k j i m y h
+  part-sound (lexeme.Name x l ∷ lexeme.Key key.Equals k ∷ m) y h =
+      let b = bind_ok (shape deep m) _ h in
+      let s = type-sound m b.0 b.1 in
+      same_found (λ z q. SoundPart (lexeme.Name x l ∷ lexeme.Key key.Equals k ∷ m) (z, q)) (AnEquate (record { name = x; shape = b.0.0; line = l })) b.0.1 y b.2 (g.equate s.0, s.1)
+  part-sound _ y h = absurd cc
+
+  abbrev SoundParts : Tokens → List Part → Type 0
+  SoundParts ts xs = ReadsParts ts xs × (deepest (map part_nesting xs) ≤ deep)
+
+  all-sound : (xs : List Part) → ◌≡◌ {A = Option (List Part)} (Some []) (Some xs) → SoundParts [] xs
+  all-sound xs h = let same : ◌≡◌ {A = List Part} [] xs = cc in subst (SoundParts []) same (g.no_parts, omega arith)
+
+  parts-sound : (n : ℕ) (ts : Tokens) (xs : List Part) → plan.parts deep n ts ≡ Some xs → SoundParts ts xs
+  unfolding plan.parts
+  parts-sound zero [] xs h = all-sound xs h
+  parts-sound (suc n) [] xs h = all-sound xs h
+  parts-sound zero (t ∷ ts) xs h = absurd cc
+  parts-sound (suc n) (t ∷ ts) xs h =
+      after_ok (SoundParts (t ∷ ts)) (plan.parts deep n) (plan.part deep (t ∷ ts)) xs h
+      (λ x ys e w. let s = part-sound (t ∷ ts) x e in let v = parts-sound n x.1 ys w in (g.part_and s.0 v.0, omega (arith, s.1, v.1)))
+
+  made-sound : (ts : Tokens) (o : Option (List Part)) (p : Program) → ((xs : List Part) → o ≡ Some xs → SoundParts ts xs) → plan.made_of o ≡ Some p → ReadsProgram ts p × (program_nesting p ≤ deep)
+  made-sound ts (Some xs) p f h =
+      let same : ◌≡◌ {A = Program} (program_of empty_program xs) p = cc in
+      let s = f xs refl in
+      let few : program_nesting (program_of empty_program xs) ≤ deep = omega (arith, s.1, nests-Program xs) in
+      (record { parts = xs; read = s.0; made = sym same }, subst (λ z. program_nesting z ≤ deep) same few)
+  made-sound ts None p f h = absurd cc
+
+  -- A program that is found is read so, and has no more levels.
+  pub program_within-sound : (ts : Tokens) (p : Program) → plan.program_within deep ts ≡ Some p → ReadsProgram ts p × (program_nesting p ≤ deep)
+  program_within-sound ts p h = made-sound ts (plan.parts deep (length ts) ts) p (parts-sound (length ts) ts) h
+
 pub program-sound : (ts : Tokens) (p : Program) → plan.program ts ≡ Some p → ReadsProgram ts p × (program_nesting p ≤ 200)
-program-sound ts p h = made-sound ts (plan.parts (length ts) ts) p (parts-sound (length ts) ts) h
+program-sound ts p h = program_within-sound deepest_tree ts p h

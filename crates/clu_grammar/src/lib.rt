@@ -3,4 +3,4 @@
 
 mod law;
 
-pub use law::{expressions_have_one_reading, types_have_one_reading};
+pub use law::{expressions_have_one_reading, no_text_has_two_trees, types_have_one_reading};
