@@ -1,9 +1,8 @@
 -- No text has two trees.
-use Rattle.std.proofs.Common.{◌≡◌, ℕ, ◌≤◌, max, Some, sym, ◌∙◌, arith}
+use Rattle.std.proofs.Common.{◌≡◌, max, Some, sym, ◌∙◌, arith}
 use Rattle.clu_tree.specs.declared.program.Program.{Program}
 use Rattle.clu_grammar.specs.Grammar.{Tokens, ReadsProgram}
 use Rattle.clu_grammar.specs.Nesting.{program_nesting}
-use Rattle.clu_grammar.specs.ProgramPlan as plan
 use Rattle.clu_grammar.proofs.ProgramComplete.{program_within-finds}
 
 same_program : (p q : Program) → Some p ≡ Some q → p ≡ q

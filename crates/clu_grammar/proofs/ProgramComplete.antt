@@ -1,6 +1,6 @@
 -- Programs that are read are found.
-use Rattle.std.proofs.Common.{◌≡◌, ℕ, zero, suc, ◌<◌, ◌≤◌, max, Bool, true, false, cond, List, [], ◌∷◌, length, map, Option, Some, None, refl, ap, subst, sym, ◌∙◌, arith, codes}
-use Rattle.std.specs.Prelude.{bytes_eq, if◌then◌else◌, ℤ}
+use Rattle.std.proofs.Common.{◌≡◌, ℕ, zero, suc, ◌<◌, ◌≤◌, Bool, true, false, List, [], ◌∷◌, length, map, Option, Some, None, refl, ap, subst, sym, ◌∙◌, arith, codes}
+use Rattle.std.specs.Prelude.{bytes_eq, ℤ}
 use Rattle.std.proofs.lemmas.Bool.{cond-true, cond-false}
 use Rattle.std.proofs.lemmas.Slice.Eq.{bytes_eq-Decides}
 use Rattle.clu_tree.specs.declared.lexeme.Key.{Key}
@@ -19,10 +19,10 @@ use Rattle.clu_tree.specs.declared.program.Program.{Program}
 use Rattle.clu_tree.specs.declared.tree.Stmt.{Stmt}
 use Rattle.clu_grammar.specs.Grammar as g
 use Rattle.clu_grammar.specs.Grammar.{Tokens, type_of, Part, AnEquate, ANodeVar, ARoutine, ACluster, ANode, empty_program, program_of, ReadsShape, ReadsFields, ReadsLiteral, ReadsSigned, ReadsValueList, ReadsValues, ReadsCarried, ReadsListed, ReadsParams, ReadsResult, ReadsSignals, ReadsBody, ReadsNames, ReadsRoutine, ReadsRoutines, ReadsNodeParts, ReadsInitial, ReadsPart, ReadsParts, ReadsProgram}
-use Rattle.clu_grammar.specs.Nesting.{deepest, shape_nesting, named_nesting, carried_nesting, listed_nesting, routine_nesting, initial_nesting, node_var_nesting, stmt_nesting, program_nesting}
+use Rattle.clu_grammar.specs.Nesting.{deepest, shape_nesting, named_nesting, carried_nesting, listed_nesting, routine_nesting, initial_nesting, program_nesting}
 use Rattle.clu_grammar.specs.Ahead.{becomes}
 use Rattle.clu_grammar.specs.ExprPlan.{Found, Parser, ◌>>=◌, closed, bracketed, shape, fields}
-use Rattle.clu_grammar.specs.StmtPlan.{names, body, end_key}
+use Rattle.clu_grammar.specs.StmtPlan.{names, body}
 use Rattle.clu_grammar.specs.ProgramPlan as plan
 use Rattle.clu_grammar.specs.ProgramPlan.{deepest_tree, rep_key}
 use Rattle.clu_grammar.proofs.Binds.{bind_some}
@@ -33,7 +33,6 @@ use Rattle.clu_grammar.proofs.StmtFollows.{headed}
 use Rattle.clu_grammar.proofs.StmtPieces.{names-finds}
 use Rattle.clu_grammar.proofs.StmtComplete.{body-finds, body-begins}
 use Rattle.clu_grammar.proofs.ProgramNesting.{part_nesting, nests-Program}
-
 
 -- ---- what is read takes a token
 
@@ -262,7 +261,7 @@ module _ (deep : ℕ) where
   routine-whole {r = r} (g.routine {x = x} {y = y} {l = l} {g = h} {f = f} {a = a} {b = b} {c = c} {d = d} {ps = ps} {s = s} {ls = ls} {ss = ss} p t u v e) k =
       let w = (body-begins v refl).2 in
       let found = routine_of-finds x y l f h a b c d r ps s ls ss (params-finds p (omega (arith, k))) (result-finds t (signals-begins u w) (omega (arith, k))) (signals-finds u w (omega (arith, k)))
-          (body-finds v refl deep (omega (arith, k))) e in
+      (body-finds v refl deep (omega (arith, k))) e in
       (found, bind_some found (λ y r. Some (ARoutine y, r)))
 
   routines-end : (n : ℕ) (r : Tokens) → plan.ends_cluster r ≡ true → plan.routines deep (suc n) r ≡ Some ([], r)

@@ -1,8 +1,6 @@
 -- How deep a program is, by its parts.
-use Rattle.std.proofs.Common.{◌≡◌, ℕ, ◌+◌, ◌≤◌, max, List, [], ◌∷◌, ◌++◌, length, map, refl, ap, sym, ◌∙◌, arith}
+use Rattle.std.proofs.Common.{◌≡◌, ℕ, max, List, [], ◌∷◌, ◌++◌, length, map, arith}
 use Rattle.clu_tree.specs.declared.program.Equate.{Equate}
-use Rattle.clu_tree.specs.declared.program.NodeVar.{NodeVar}
-use Rattle.clu_tree.specs.declared.program.Routine.{Routine}
 use Rattle.clu_tree.specs.declared.program.Cluster.{Cluster}
 use Rattle.clu_tree.specs.declared.program.Program.{Program}
 use Rattle.clu_grammar.specs.Grammar.{Part, AnEquate, ANodeVar, ARoutine, ACluster, ANode, empty_program, with_part, program_of}

@@ -1,6 +1,6 @@
 -- What the plan of programs finds is read so.
-use Rattle.std.proofs.Common.{◌≡◌, ℕ, zero, suc, ◌≤◌, max, Bool, true, false, cond, List, [], ◌∷◌, length, map, Option, Some, None, refl, ap, subst, sym, ◌∙◌, arith, inl, inr, codes}
-use Rattle.std.specs.Prelude.{◌⊎◌, bytes_eq, if◌then◌else◌, ℤ}
+use Rattle.std.proofs.Common.{◌≡◌, ℕ, zero, suc, ◌≤◌, Bool, true, false, cond, List, [], ◌∷◌, length, map, Option, Some, None, refl, subst, sym, ◌∙◌, arith, inl, inr, codes}
+use Rattle.std.specs.Prelude.{◌⊎◌, bytes_eq}
 use Rattle.std.proofs.lemmas.Slice.Eq.{bytes_eq-Decides}
 use Rattle.clu_tree.specs.declared.lexeme.Key.TheVariants as key
 use Rattle.clu_tree.specs.declared.lexeme.Lexeme.TheVariants as lexeme
@@ -14,10 +14,9 @@ use Rattle.clu_tree.specs.declared.program.Routine.{Routine}
 use Rattle.clu_tree.specs.declared.program.NodePart.{NodePart}
 use Rattle.clu_tree.specs.declared.program.NodePart.TheVariants as np
 use Rattle.clu_tree.specs.declared.program.Program.{Program}
-use Rattle.clu_tree.specs.declared.tree.Stmt.{Stmt}
 use Rattle.clu_grammar.specs.Grammar as g
 use Rattle.clu_grammar.specs.Grammar.{Tokens, Part, AnEquate, ANodeVar, ARoutine, ACluster, ANode, empty_program, program_of, ReadsShape, ReadsSigned, ReadsValueList, ReadsValues, ReadsCarried, ReadsListed, ReadsParams, ReadsResult, ReadsSignals, ReadsBody, ReadsNames, ReadsRoutine, ReadsRoutines, ReadsNodeParts, ReadsInitial, ReadsPart, ReadsParts, ReadsProgram}
-use Rattle.clu_grammar.specs.Nesting.{deepest, shape_nesting, named_nesting, carried_nesting, listed_nesting, routine_nesting, initial_nesting, node_var_nesting, stmt_nesting, program_nesting}
+use Rattle.clu_grammar.specs.Nesting.{deepest, shape_nesting, named_nesting, carried_nesting, listed_nesting, routine_nesting, initial_nesting, program_nesting}
 use Rattle.clu_grammar.specs.ExprPlan.{Found, Parser, ◌>>=◌, closed, bracketed, shape, fields}
 use Rattle.clu_grammar.specs.StmtPlan.{names, body}
 use Rattle.clu_grammar.specs.ProgramPlan as plan
@@ -27,7 +26,6 @@ use Rattle.clu_grammar.proofs.Shapes.{shape-sound, fields-sound}
 use Rattle.clu_grammar.proofs.Sound.{literal_at-sound}
 use Rattle.clu_grammar.proofs.StmtSound.{names-sound, body-sound}
 use Rattle.clu_grammar.proofs.ProgramNesting.{part_nesting, nests-Program}
-
 
 -- ---- literals
 

@@ -1,6 +1,5 @@
 -- Statements that are read are found, wherever a body ends.
-use Rattle.std.proofs.Common.{◌≡◌, ℕ, zero, suc, ◌+◌, ◌<◌, ◌≤◌, max, Bool, true, false, List, [], ◌∷◌, length, map, Option, Some, None, refl, ap, subst, sym, ◌∙◌, arith}
-use Rattle.std.specs.Prelude.{if◌then◌else◌}
+use Rattle.std.proofs.Common.{◌≡◌, ℕ, zero, suc, ◌+◌, ◌<◌, ◌≤◌, Bool, true, false, List, [], ◌∷◌, length, map, Option, Some, None, refl, ap, ◌∙◌, arith}
 use Rattle.std.proofs.lemmas.Bool.{cond-true, cond-false}
 use Rattle.clu_tree.specs.declared.lexeme.Key.TheVariants as key
 use Rattle.clu_tree.specs.declared.lexeme.Lexeme.TheVariants as lexeme
@@ -18,7 +17,7 @@ use Rattle.clu_tree.specs.declared.tree.When.{When, roll-When}
 use Rattle.clu_tree.specs.declared.tree.Handlers.{Handlers, roll-Handlers}
 use Rattle.clu_grammar.specs.Grammar as g
 use Rattle.clu_grammar.specs.Grammar.{Tokens, line_of, ReadsShape, ReadsExpr, ReadsNames, ReadsVariable, ReadsIter, ReadsBody, ReadsStmt, ReadsSimple, ReadsArms, ReadsElse, ReadsTags, ReadsOthers, ReadsWhens, ReadsHandlers}
-use Rattle.clu_grammar.specs.Nesting.{shape_nesting, expr_nesting, stmt_nesting, arm_nesting, tag_nesting, when_nesting, handlers_nesting, iter_nesting, variable_nesting, deepest}
+use Rattle.clu_grammar.specs.Nesting.{stmt_nesting, arm_nesting, tag_nesting, when_nesting, handlers_nesting, deepest}
 use Rattle.clu_grammar.specs.ExprPlan.{Found, Parser, ◌>>=◌, within, shape, levels}
 use Rattle.clu_grammar.specs.StmtPlan as plan
 use Rattle.clu_grammar.specs.StmtPlan.{colon, then_key, do_key, in_key, end_key, ends_body}
@@ -27,7 +26,7 @@ use Rattle.clu_grammar.proofs.Nests.{others_nesting, nests-Assign, nests-If, nes
 use Rattle.clu_grammar.proofs.Shrinks.{shrinks}
 use Rattle.clu_grammar.proofs.Shapes.{shape-finds, commas}
 use Rattle.clu_grammar.proofs.StmtShrinks.{shrinks-names, shrinks-variable, shrinks-body, shrinks-stmt}
-use Rattle.clu_grammar.proofs.StmtFollows.{suffixed, headed, Follows, Begins, stmt-begins, ended-follows}
+use Rattle.clu_grammar.proofs.StmtFollows.{suffixed, headed, Follows, stmt-begins, ended-follows}
 use Rattle.clu_grammar.proofs.StmtFront.{assigns-field, assigns-item, call-finds}
 use Rattle.clu_grammar.proofs.StmtPieces.{names-finds, expr-finds, variable-finds, iter-finds, declare-finds, declare_as-finds, assigns-name, remote_to-finds, remote_alone-finds, put_line-finds, sleep-finds, fork-finds, leave-finds, give-finds, signal-finds, signal_with-finds}
 

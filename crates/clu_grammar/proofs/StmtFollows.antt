@@ -1,5 +1,5 @@
 -- What comes first in a statement, and what may follow one.
-use Rattle.std.proofs.Common.{◌≡◌, ℕ, zero, suc, ◌<◌, ◌≤◌, Bool, true, false, List, [], ◌∷◌, length, Option, Some, None, refl, arith}
+use Rattle.std.proofs.Common.{◌≡◌, ℕ, Bool, true, false, ◌∷◌, Some, refl, arith}
 use Rattle.clu_tree.specs.declared.lexeme.Key.{Key}
 use Rattle.clu_tree.specs.declared.lexeme.Key.TheVariants as key
 use Rattle.clu_tree.specs.declared.lexeme.Lexeme.TheVariants as lexeme
@@ -7,13 +7,11 @@ use Rattle.clu_tree.specs.declared.shape.Shape.{Shape}
 use Rattle.clu_tree.specs.declared.value.Value.{Value}
 use Rattle.clu_tree.specs.declared.tree.Prefix.TheVariants as p
 use Rattle.clu_tree.specs.declared.tree.Expr.{Expr}
-use Rattle.clu_tree.specs.declared.tree.Remote.{Remote}
 use Rattle.clu_tree.specs.declared.tree.Stmt.{Stmt}
 use Rattle.clu_grammar.specs.Grammar as g
 use Rattle.clu_grammar.specs.Grammar.{Tokens, type_of, looseness, ReadsShape, ReadsLiteral, ReadsExpr, ReadsPrimary, ReadsCall, ReadsRemote, ReadsTarget, ReadsStmt, ReadsSimple}
-use Rattle.clu_grammar.specs.Ahead.{is_target}
 use Rattle.clu_grammar.specs.StmtPlan.{ends_body, begins_remote}
-use Rattle.clu_grammar.proofs.Ending.{loosens, ends, Ends, target-ends, call-ends}
+use Rattle.clu_grammar.proofs.Ending.{Ends, target-ends, call-ends}
 use Rattle.clu_grammar.proofs.Shapes.{commas}
 
 -- `except` and `resignal` go on with a statement

@@ -1,8 +1,7 @@
 -- The front of a statement that is a call or assigns to a field or an element: what is read is found.
 use denote.Hole.Carrier
-use Rattle.std.proofs.Common.{◌≡◌, ℕ, zero, suc, ◌+◌, ◌<◌, ◌≤◌, max, Bool, true, false, List, [], ◌∷◌, length, map, Option, Some, None, refl, ap, subst, sym, ◌∙◌, arith}
-use Rattle.std.specs.Prelude.{if◌then◌else◌}
-use Rattle.std.proofs.lemmas.Bool.{cond-true, cond-false}
+use Rattle.std.proofs.Common.{◌≡◌, ℕ, zero, suc, ◌+◌, ◌<◌, ◌≤◌, Bool, true, false, List, ◌∷◌, Some, refl, ap, sym, ◌∙◌, arith}
+use Rattle.std.proofs.lemmas.Bool.{cond-true}
 use Rattle.clu_tree.specs.declared.lexeme.Key.{Key}
 use Rattle.clu_tree.specs.declared.lexeme.Key.TheVariants as key
 use Rattle.clu_tree.specs.declared.lexeme.Lexeme.TheVariants as lexeme
@@ -16,14 +15,13 @@ use Rattle.clu_tree.specs.declared.tree.Stmt.{Stmt}
 use Rattle.clu_tree.specs.declared.tree.Stmt.TheVariants as st
 use Rattle.clu_grammar.specs.Grammar as g
 use Rattle.clu_grammar.specs.Grammar.{Tokens, line_of, type_of, looseness, ReadsShape, ReadsLiteral, ReadsExpr, ReadsPrimary, ReadsCall, ReadsArgs}
-use Rattle.clu_grammar.specs.Nesting.{expr_nesting, stmt_nesting, deepest}
-use Rattle.clu_grammar.specs.ExprPlan as expr_plan
-use Rattle.clu_grammar.specs.ExprPlan.{Found, Parser, ◌>>=◌, within, bracketed, levels, group, atom}
+use Rattle.clu_grammar.specs.Nesting.{expr_nesting, stmt_nesting}
+use Rattle.clu_grammar.specs.ExprPlan.{Found, Parser, ◌>>=◌, within, bracketed, levels, atom}
 use Rattle.clu_grammar.specs.StmtPlan as plan
 use Rattle.clu_grammar.specs.StmtPlan.{Place, Whole, FieldOf, ItemOf, place_node, is_call, opens}
 use Rattle.clu_grammar.proofs.Binds.{bind_some, bind_assoc, within_fits}
 use Rattle.clu_grammar.proofs.Nests.{nests-Call, nests-Field, nests-Index, nests-CallOf, nests-Assign, nests_pos}
-use Rattle.clu_grammar.proofs.Ending.{loosens, ends, Ends}
+use Rattle.clu_grammar.proofs.Ending.{loosens}
 use Rattle.clu_grammar.proofs.Complete.{levels-finds, args-finds, group-finds, is_leaf, leaf-finds}
 
 -- a field or an element follows

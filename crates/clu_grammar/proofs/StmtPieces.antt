@@ -1,6 +1,6 @@
 -- The statements that have parts but no statements inside: what is read is found.
-use Rattle.std.proofs.Common.{◌≡◌, ℕ, zero, suc, ◌+◌, ◌<◌, ◌≤◌, max, Bool, true, false, List, [], ◌∷◌, length, map, Option, Some, None, refl, ap, subst, sym, ◌∙◌, arith, codes}
-use Rattle.std.specs.Prelude.{if◌then◌else◌, bytes_eq}
+use Rattle.std.proofs.Common.{◌≡◌, ℕ, zero, suc, ◌≤◌, true, false, List, [], ◌∷◌, length, Option, Some, None, refl, ap, ◌∙◌, arith, codes}
+use Rattle.std.specs.Prelude.{bytes_eq}
 use Rattle.std.proofs.lemmas.Bool.{cond-true, cond-false}
 use Rattle.std.proofs.lemmas.Slice.Eq.{bytes_eq-Decides}
 use Rattle.clu_tree.specs.declared.lexeme.Key.{Key}
@@ -19,8 +19,8 @@ use Rattle.clu_tree.specs.declared.tree.Stmt.{Stmt}
 use Rattle.clu_tree.specs.declared.tree.Stmt.TheVariants as st
 use Rattle.clu_grammar.specs.Grammar as g
 use Rattle.clu_grammar.specs.Grammar.{Tokens, line_of, field_of, type_of, ReadsShape, ReadsExpr, ReadsArgs, ReadsNames, ReadsVariable, ReadsRemote, ReadsIter}
-use Rattle.clu_grammar.specs.Nesting.{shape_nesting, expr_nesting, stmt_nesting, remote_nesting, iter_nesting, variable_nesting, value_nesting, deepest}
-use Rattle.clu_grammar.specs.Ahead.{is_target, assigns, skip}
+use Rattle.clu_grammar.specs.Nesting.{expr_nesting, stmt_nesting, remote_nesting, iter_nesting, variable_nesting}
+use Rattle.clu_grammar.specs.Ahead.{is_target, assigns}
 use Rattle.clu_grammar.specs.ExprPlan as expr_plan
 use Rattle.clu_grammar.specs.ExprPlan.{Found, Parser, ◌>>=◌, within, closed, bracketed, dollar, shape, levels}
 use Rattle.clu_grammar.specs.StmtPlan as plan
@@ -28,11 +28,10 @@ use Rattle.clu_grammar.specs.StmtPlan.{comma, colon, at_key, within_key, then_ke
 use Rattle.clu_grammar.proofs.Binds.{bind_some, within_fits}
 use Rattle.clu_grammar.proofs.Nests.{nests-Declare, nests-Assign, nests-Remote, nests-PutLine, nests-Sleep, nests-Fork, nests-Return, nests-Signal}
 use Rattle.clu_grammar.proofs.Balance.{skips}
-use Rattle.clu_grammar.proofs.Ending.{loosens, ends, Ends, clear-ends}
+use Rattle.clu_grammar.proofs.Ending.{ends, Ends, clear-ends}
 use Rattle.clu_grammar.proofs.Shapes.{shape-finds, commas}
 use Rattle.clu_grammar.proofs.Complete.{levels-finds, args-finds}
 use Rattle.clu_grammar.proofs.StmtFollows.{unremote}
-
 
 last-finds : (n l : ℕ) (x : List ℕ) (r : Tokens) → commas r ≡ false → plan.names (suc n) (lexeme.Name x l ∷ r) ≡ Some (x ∷ [], r)
 unfolding plan.names

@@ -1,5 +1,5 @@
 -- A statement that is read takes a token.
-use Rattle.std.proofs.Common.{◌≡◌, ℕ, zero, suc, ◌<◌, ◌≤◌, List, [], ◌∷◌, length, Option, arith}
+use Rattle.std.proofs.Common.{ℕ, ◌<◌, ◌≤◌, List, length, Option, arith}
 use Rattle.clu_tree.specs.declared.shape.Named.{Named}
 use Rattle.clu_tree.specs.declared.tree.Target.{Target}
 use Rattle.clu_tree.specs.declared.tree.Remote.{Remote}

@@ -1,7 +1,7 @@
 -- What the plan of statements finds is read so.
 use denote.Hole.Carrier
-use Rattle.std.proofs.Common.{◌≡◌, ℕ, zero, suc, ◌≤◌, max, Bool, true, false, List, [], ◌∷◌, length, map, Option, Some, None, refl, ap, subst, sym, arith, inl, inr, codes}
-use Rattle.std.specs.Prelude.{◌⊎◌, bytes_eq, if◌then◌else◌}
+use Rattle.std.proofs.Common.{◌≡◌, ℕ, zero, suc, ◌≤◌, Bool, true, false, List, [], ◌∷◌, length, map, Option, Some, None, refl, subst, sym, arith, inl, inr, codes}
+use Rattle.std.specs.Prelude.{◌⊎◌, bytes_eq}
 use Rattle.std.proofs.lemmas.Slice.Eq.{bytes_eq-Decides}
 use Rattle.clu_tree.specs.declared.lexeme.Key.TheVariants as key
 use Rattle.clu_tree.specs.declared.lexeme.Lexeme.TheVariants as lexeme
