@@ -1,6 +1,6 @@
 -- What the plan of programs finds is read so.
-use Rattle.std.proofs.Common.{◌≡◌, ℕ, zero, suc, ◌≤◌, Bool, true, false, cond, List, [], ◌∷◌, length, map, Option, Some, None, refl, subst, sym, ◌∙◌, arith, inl, inr, codes}
-use Rattle.std.specs.Prelude.{◌⊎◌, bytes_eq}
+use Rattle.std.proofs.Common.{◌≡◌, ℕ, zero, suc, ◌≤◌, Bool, true, false, cond, List, [], ◌∷◌, length, map, Option, Some, None, refl, ap, subst, sym, ◌∙◌, arith, inl, inr, codes}
+use Rattle.std.specs.Prelude.{ℤ, ◌⊎◌, bytes_eq}
 use Rattle.std.proofs.lemmas.Slice.Eq.{bytes_eq-Decides}
 use Rattle.clu_tree.specs.declared.lexeme.Key.TheVariants as key
 use Rattle.clu_tree.specs.declared.lexeme.Lexeme.TheVariants as lexeme
@@ -84,10 +84,32 @@ node_parts-sound (suc n) (lexeme.Key key.Start l ∷ lexeme.Name x k ∷ lexeme.
 node_parts-sound (suc n) (lexeme.Key key.End k ∷ r) y h = same_found (λ z q. ReadsNodeParts (lexeme.Key key.End k ∷ r) q z) [] r y h g.parts_end
 node_parts-sound (suc n) _ y h = absurd cc
 
--- behind `$ name (`
-make_ok : {A B : Type 0} (b : Bool) (x : A) (r : Tokens) (f : A → Parser B) (y : B × Tokens) → (plan.kept x (cond {A = Option Tokens} b (Some r) None) >>= f) ≡ Some y → (b ≡ true) × (f x r ≡ Some y)
-make_ok true x r f y h = (refl, h)
-make_ok false x r f y h = absurd cc
+-- `$ name (`, and what is found behind it
+record Made {A B : Type 0} (name : List ℕ) (x : A) (m : Tokens) (f : A → Parser B) (y : B × Tokens) : Type 0 where
+  z : List ℕ
+  l : ℕ
+  k : ℕ
+  j : ℕ
+  r : Tokens
+  named : z ≡ name
+  at : m ≡ (lexeme.Key key.Dollar l ∷ lexeme.Name z k ∷ lexeme.Key key.LParen j ∷ r)
+  found : f x r ≡ Some y
+
+make_ok : {A B : Type 0} (name : List ℕ) (x : A) (m : Tokens) (f : A → Parser B) (y : B × Tokens) → (plan.behind_make name x m >>= f) ≡ Some y → Made name x m f y
+make_ok {A} {B} name x (lexeme.Key key.Dollar l ∷ lexeme.Name z k ∷ lexeme.Key key.LParen j ∷ r) f y h = go (bytes_eq z name) refl h
+  where
+    go : (b : Bool) → bytes_eq z name ≡ b → (plan.kept x (cond {A = Option Tokens} b (Some r) None) >>= f) ≡ Some y → Made name x (lexeme.Key key.Dollar l ∷ lexeme.Name z k ∷ lexeme.Key key.LParen j ∷ r) f y
+    go true e h = record { z = z; l = l; k = k; j = j; r = r; named = (bytes_eq-Decides z name).0 e; at = refl; found = h }
+    go false e h = absurd cc
+make_ok name x _ f y h = absurd cc
+
+created_ok : (x : Initial) (m : Tokens) (y : Initial × Tokens) → plan.created x m ≡ Some y → (n : ℕ) × (m ≡ (lexeme.Key key.RParen n ∷ y.1)) × (x ≡ y.0)
+created_ok x (lexeme.Key key.RParen n ∷ r) y h = (n, same_found (λ z q. ◌≡◌ {A = Tokens} (lexeme.Key key.RParen n ∷ r) (lexeme.Key key.RParen n ∷ q)) x r y h refl, same_found (λ z q. x ≡ z) x r y h refl)
+created_ok x _ y h = absurd cc
+
+semaphore_ok : (m : Tokens) (y : Initial × Tokens) → plan.semaphore_of m ≡ Some y → (v : ℤ) × (l : ℕ) × (r : Tokens) × (m ≡ (lexeme.Int v l ∷ r)) × (plan.created (n.Semaphore v) r ≡ Some y)
+semaphore_ok (lexeme.Int v l ∷ r) y h = (v, l, r, refl, h)
+semaphore_ok _ y h = absurd cc
 
 before_ok : (P : List Part → Type 0) (x : Part) (o : Option (List Part)) (xs : List Part) → plan.part_before x o ≡ Some xs → ((ys : List Part) → o ≡ Some ys → P (x ∷ ys)) → P xs
 before_ok P x (Some ys) xs h f = let same : ◌≡◌ {A = List Part} (x ∷ ys) xs = cc in subst P same (f ys refl)
@@ -203,32 +225,35 @@ module _ (deep : ℕ) where
 
   -- ---- parts
 
-  lock-sound : (l : ℕ) (m : Tokens) (y : Initial × Tokens) → (plan.behind_make (codes "create") n.Lock m >>= plan.created) ≡ Some y → ReadsInitial (lexeme.Key key.Lock l ∷ m) y.1 y.0 × (initial_nesting (Some y.0) ≤ deep)
-  lock-sound l (lexeme.Key key.Dollar k ∷ lexeme.Name x j ∷ lexeme.Key key.LParen i ∷ lexeme.Key key.RParen u ∷ r) y h =
-      let w = make_ok (bytes_eq x (codes "create")) n.Lock (lexeme.Key key.RParen u ∷ r) plan.created y h in
-      same_found (λ z q. ReadsInitial (lexeme.Key key.Lock l ∷ lexeme.Key key.Dollar k ∷ lexeme.Name x j ∷ lexeme.Key key.LParen i ∷ lexeme.Key key.RParen u ∷ r) q z × (initial_nesting (Some z) ≤ deep)) n.Lock r y w.1
-      (g.from_lock ((bytes_eq-Decides x (codes "create")).0 w.0), omega arith)
-  lock-sound l (lexeme.Key key.Dollar k ∷ lexeme.Name x j ∷ lexeme.Key key.LParen i ∷ m) y h = let w = make_ok (bytes_eq x (codes "create")) n.Lock m plan.created y h in absurd cc
-  lock-sound l _ y h = absurd cc
+  abbrev SoundInitial : Tokens → Tokens → Initial → Type 0
+  SoundInitial ts r x = ReadsInitial ts r x × (initial_nesting (Some x) ≤ deep)
 
-  semaphore-sound : (l : ℕ) (m : Tokens) (y : Initial × Tokens) → (plan.behind_make (codes "create") n.Lock m >>= λ _. plan.semaphore_of) ≡ Some y → ReadsInitial (lexeme.Key key.Semaphore l ∷ m) y.1 y.0 × (initial_nesting (Some y.0) ≤ deep)
-  semaphore-sound l (lexeme.Key key.Dollar k ∷ lexeme.Name x j ∷ lexeme.Key key.LParen i ∷ lexeme.Int v e ∷ lexeme.Key key.RParen u ∷ r) y h =
-      let w = make_ok (bytes_eq x (codes "create")) n.Lock (lexeme.Int v e ∷ lexeme.Key key.RParen u ∷ r) (λ _. plan.semaphore_of) y h in
-      same_found (λ z q. ReadsInitial (lexeme.Key key.Semaphore l ∷ lexeme.Key key.Dollar k ∷ lexeme.Name x j ∷ lexeme.Key key.LParen i ∷ lexeme.Int v e ∷ lexeme.Key key.RParen u ∷ r) q z × (initial_nesting (Some z) ≤ deep)) (n.Semaphore v) r y w.1
-      (g.from_semaphore ((bytes_eq-Decides x (codes "create")).0 w.0), omega arith)
-  semaphore-sound l (lexeme.Key key.Dollar k ∷ lexeme.Name x j ∷ lexeme.Key key.LParen i ∷ m) y h = let w = make_ok (bytes_eq x (codes "create")) n.Lock m (λ _. plan.semaphore_of) y h in absurd cc
-  semaphore-sound l _ y h = absurd cc
+  lock-sound : (l : ℕ) (m : Tokens) (y : Initial × Tokens) → (plan.behind_make (codes "create") n.Lock m >>= plan.created) ≡ Some y → SoundInitial (lexeme.Key key.Lock l ∷ m) y.1 y.0
+  lock-sound l m y h =
+      let w = make_ok (codes "create") n.Lock m plan.created y h in
+      let c = created_ok n.Lock w.r y w.found in
+      let at : m ≡ (lexeme.Key key.Dollar w.l ∷ lexeme.Name w.z w.k ∷ lexeme.Key key.LParen w.j ∷ lexeme.Key key.RParen c.0 ∷ y.1) = w.at ∙ ap (λ q. lexeme.Key key.Dollar w.l ∷ lexeme.Name w.z w.k ∷ lexeme.Key key.LParen w.j ∷ q) c.1 in
+      subst (SoundInitial (lexeme.Key key.Lock l ∷ m) y.1) c.2 (subst (λ q. ReadsInitial (lexeme.Key key.Lock l ∷ q) y.1 n.Lock) (sym at) (g.from_lock w.named), omega arith)
+
+  semaphore-sound : (l : ℕ) (m : Tokens) (y : Initial × Tokens) → (plan.behind_make (codes "create") n.Lock m >>= λ _. plan.semaphore_of) ≡ Some y → SoundInitial (lexeme.Key key.Semaphore l ∷ m) y.1 y.0
+  semaphore-sound l m y h =
+      let w = make_ok (codes "create") n.Lock m (λ _. plan.semaphore_of) y h in
+      let v = semaphore_ok w.r y w.found in
+      let c = created_ok (n.Semaphore v.0) v.2 y v.4 in
+      let at : m ≡ (lexeme.Key key.Dollar w.l ∷ lexeme.Name w.z w.k ∷ lexeme.Key key.LParen w.j ∷ lexeme.Int v.0 v.1 ∷ lexeme.Key key.RParen c.0 ∷ y.1) =
+      w.at ∙ ap (λ q. lexeme.Key key.Dollar w.l ∷ lexeme.Name w.z w.k ∷ lexeme.Key key.LParen w.j ∷ q) (v.3 ∙ ap (λ q. lexeme.Int v.0 v.1 ∷ q) c.1) in
+      subst (SoundInitial (lexeme.Key key.Semaphore l ∷ m) y.1) c.2 (subst (λ q. ReadsInitial (lexeme.Key key.Semaphore l ∷ q) y.1 (n.Semaphore v.0)) (sym at) (g.from_semaphore w.named), omega arith)
 
   empty-sound : (l k j : ℕ) (a : Tokens) (s : Shape) (m : Tokens) (y : Initial × Tokens) → ReadsShape a (lexeme.Key key.RBracket j ∷ m) s → shape_nesting s ≤ deep →
-      (plan.behind_make (codes "new") s m >>= λ t. plan.created (n.Empty t)) ≡ Some y → ReadsInitial (lexeme.Key key.Array l ∷ lexeme.Key key.LBracket k ∷ a) y.1 y.0 × (initial_nesting (Some y.0) ≤ deep)
-  empty-sound l k j a s (lexeme.Key key.Dollar h ∷ lexeme.Name x i ∷ lexeme.Key key.LParen u ∷ lexeme.Key key.RParen v ∷ r) y p f e =
-      let w = make_ok (bytes_eq x (codes "new")) s (lexeme.Key key.RParen v ∷ r) (λ t. plan.created (n.Empty t)) y e in
-      same_found (λ z q. ReadsInitial (lexeme.Key key.Array l ∷ lexeme.Key key.LBracket k ∷ a) q z × (initial_nesting (Some z) ≤ deep)) (n.Empty s) r y w.1 (g.from_array ((bytes_eq-Decides x (codes "new")).0 w.0) p, f)
-  empty-sound l k j a s (lexeme.Key key.Dollar h ∷ lexeme.Name x i ∷ lexeme.Key key.LParen u ∷ m) y p f e = let w = make_ok (bytes_eq x (codes "new")) s m (λ t. plan.created (n.Empty t)) y e in absurd cc
-  empty-sound l k j a s _ y p f e = absurd cc
+      (plan.behind_make (codes "new") s m >>= λ t. plan.created (n.Empty t)) ≡ Some y → SoundInitial (lexeme.Key key.Array l ∷ lexeme.Key key.LBracket k ∷ a) y.1 y.0
+  empty-sound l k j a s m y p f h =
+      let w = make_ok (codes "new") s m (λ t. plan.created (n.Empty t)) y h in
+      let c = created_ok (n.Empty s) w.r y w.found in
+      let at : m ≡ (lexeme.Key key.Dollar w.l ∷ lexeme.Name w.z w.k ∷ lexeme.Key key.LParen w.j ∷ lexeme.Key key.RParen c.0 ∷ y.1) = w.at ∙ ap (λ q. lexeme.Key key.Dollar w.l ∷ lexeme.Name w.z w.k ∷ lexeme.Key key.LParen w.j ∷ q) c.1 in
+      subst (SoundInitial (lexeme.Key key.Array l ∷ lexeme.Key key.LBracket k ∷ a) y.1) c.2 (g.from_array w.named (subst (λ q. ReadsShape a (lexeme.Key key.RBracket j ∷ q) s) at p), f)
 
   array-sound : (l k : ℕ) (a : Tokens) (y : Initial × Tokens) → (shape deep a >>= bracketed >>= plan.behind_make (codes "new") >>= λ t. plan.created (n.Empty t)) ≡ Some y →
-      ReadsInitial (lexeme.Key key.Array l ∷ lexeme.Key key.LBracket k ∷ a) y.1 y.0 × (initial_nesting (Some y.0) ≤ deep)
+      SoundInitial (lexeme.Key key.Array l ∷ lexeme.Key key.LBracket k ∷ a) y.1 y.0
   array-sound l k a y h =
       let b = bind_ok (shape deep a >>= bracketed >>= plan.behind_make (codes "new")) (λ t. plan.created (n.Empty t)) h in
       let c = bind_ok (shape deep a >>= bracketed) (plan.behind_make (codes "new")) b.1 in
@@ -236,12 +261,12 @@ module _ (deep : ℕ) where
       let s = type-sound a (c.0.0, lexeme.Key key.RBracket d.0 ∷ c.0.1) d.1 in
       empty-sound l k d.0 a c.0.0 c.0.1 y s.0 s.1 (bind_some c.2 (λ t. plan.created (n.Empty t)) ∙ b.2)
 
-  signed_initial : (ts : Tokens) (y : Initial × Tokens) → (plan.signed_at ts >>= λ x r. Some (n.Literal x, r)) ≡ Some y → ReadsInitial ts y.1 y.0 × (initial_nesting (Some y.0) ≤ deep)
+  signed_initial : (ts : Tokens) (y : Initial × Tokens) → (plan.signed_at ts >>= λ x r. Some (n.Literal x, r)) ≡ Some y → SoundInitial ts y.1 y.0
   signed_initial ts y h =
       let b = bind_ok (plan.signed_at ts) _ h in
-      same_found (λ z q. ReadsInitial ts q z × (initial_nesting (Some z) ≤ deep)) (n.Literal b.0.0) b.0.1 y b.2 (g.from_literal (signed-sound ts b.0 b.1), omega arith)
+      same_found (λ z q. SoundInitial ts q z) (n.Literal b.0.0) b.0.1 y b.2 (g.from_literal (signed-sound ts b.0 b.1), omega arith)
 
-  initial-sound : (ts : Tokens) (y : Initial × Tokens) → plan.initial deep ts ≡ Some y → ReadsInitial ts y.1 y.0 × (initial_nesting (Some y.0) ≤ deep)
+  initial-sound : (ts : Tokens) (y : Initial × Tokens) → plan.initial deep ts ≡ Some y → SoundInitial ts y.1 y.0
   initial-sound (lexeme.Key key.Lock l ∷ m) y h = lock-sound l m y h
   initial-sound (lexeme.Key key.Semaphore l ∷ m) y h = semaphore-sound l m y h
   initial-sound (lexeme.Key key.Array l ∷ lexeme.Key key.LBracket k ∷ m) y h = array-sound l k m y h
