@@ -1,0 +1,4 @@
+pub mod Nodes
+pub mod ShapeSteps
+pub mod ExprSteps
+pub mod Turns

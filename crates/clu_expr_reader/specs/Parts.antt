@@ -1,0 +1,26 @@
+-- Parts of types and fields.
+use Rattle.std.specs.Prelude.{ℕ, List, [], ◌∷◌, Some, None, length}
+use Rattle.clu_tree.specs.declared.lexeme.Key.TheVariants as key
+use Rattle.clu_tree.specs.declared.lexeme.Lexeme.TheVariants as lexeme
+use Rattle.clu_tree.specs.declared.shape.Shape.{Shape}
+use Rattle.clu_tree.specs.declared.shape.Shape.TheVariants as s
+use Rattle.clu_tree.specs.declared.shape.Named.{Named}
+use Rattle.clu_grammar.specs.ExprPlan.{Parser, ◌>>=◌, bracketed, shape, fields}
+
+-- a name and the colon behind it
+abbrev pub label : Parser (List ℕ)
+label (lexeme.Name x _ ∷ lexeme.Key key.Colon _ ∷ m) = Some (x, m)
+label _ = None
+
+-- a token, and an opening bracket behind it
+abbrev pub opened : Parser Unit
+opened (_ ∷ lexeme.Key key.LBracket _ ∷ m) = Some (tt, m)
+opened _ = None
+
+-- behind the opening bracket of an array's type
+abbrev pub array_rest : ℕ → Parser Shape
+array_rest d m = shape d m >>= bracketed >>= λ t r. Some (s.Arr t, r)
+
+-- behind the opening bracket of a record's or a oneof's type
+abbrev pub fields_rest : ℕ → Parser (List Named)
+fields_rest d m = fields (shape d) (length m) m >>= bracketed
