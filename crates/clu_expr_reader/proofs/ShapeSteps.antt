@@ -1,5 +1,5 @@
 -- How a reader goes over types, as the code takes it.
-use Rattle.std.proofs.Common.{◌≡◌, ℕ, zero, suc, ◌+◌, ◌-◌, ◌<◌, List, [], ◌∷◌, ◌++◌, length, Option, Some, None, refl, ap, sym, ◌∙◌, arith, append_assoc}
+use Rattle.std.proofs.Common.{◌≡◌, ℕ, zero, suc, Bool, true, false, ◌+◌, ◌-◌, ◌<◌, List, [], ◌∷◌, ◌++◌, length, Option, Some, None, refl, ap, sym, ◌∙◌, arith, append_assoc}
 use Rattle.clu_tree.specs.declared.lexeme.Key.{Key}
 use Rattle.clu_tree.specs.declared.lexeme.Key.TheVariants as key
 use Rattle.clu_tree.specs.declared.lexeme.Lexeme.TheVariants as lexeme
@@ -8,7 +8,7 @@ use Rattle.clu_tree.specs.declared.shape.Shape.TheVariants as s
 use Rattle.clu_tree.specs.declared.shape.Named.{Named}
 use Rattle.clu_grammar.specs.Grammar.{Tokens, field_of}
 use Rattle.clu_grammar.specs.ExprPlan.{Found, Parser, ◌>>=◌, shape, fields, fields_after}
-use Rattle.clu_expr_reader.specs.Parts.{label, opened, array_rest, fields_rest}
+use Rattle.clu_expr_reader.specs.Parts.{label, opened, array_rest, fields_rest, word_at, is_long}
 
 pub array-step : (d : ℕ) (ts r : Tokens) (l : ℕ) → 0 < d → ts ≡ lexeme.Key key.Array l ∷ r → shape d ts ≡ (opened ts >>= λ _ m. array_rest (d - 1) m)
 unfolding shape
@@ -36,7 +36,16 @@ oneof-step (suc d) ts (lexeme.Key key.LBracket k ∷ m) l h e =
     ap (shape (suc d)) e ∙ sym (ap (λ ts. opened ts >>= λ _ m. fields_rest (suc d - 1) m >>= λ fs q. Some (s.Oneof fs, q)) e ∙ ap (λ j. fields_rest j m >>= λ fs q. Some (s.Oneof fs, q)) down)
 oneof-step (suc d) ts r l h e = ap (shape (suc d)) e ∙ sym (ap (λ ts. opened ts >>= λ _ m. fields_rest (suc d - 1) m >>= λ fs q. Some (s.Oneof fs, q)) e)
 
-pub ruleset shapes = (array-step, record-step, oneof-step)
+pub word-step : (d : ℕ) (ts : Tokens) → 0 < d → is_long ts ≡ false → shape d ts ≡ word_at ts
+unfolding shape
+word-step zero ts h e = absurd (omega arith)
+word-step (suc d) (lexeme.Name _ _ ∷ _) h e = absurd cc
+word-step (suc d) (lexeme.Key key.Array _ ∷ _) h e = absurd cc
+word-step (suc d) (lexeme.Key key.Record _ ∷ _) h e = absurd cc
+word-step (suc d) (lexeme.Key key.Oneof _ ∷ _) h e = absurd cc
+word-step (suc d) _ h e = refl
+
+pub ruleset shapes = (array-step, record-step, oneof-step, word-step)
 
 pub fields-step : (inner : Parser Shape) (n : ℕ) (ts : Tokens) → fields inner (suc n) ts ≡ (label ts >>= λ x m. inner m >>= fields_after (fields inner n) x)
 unfolding fields

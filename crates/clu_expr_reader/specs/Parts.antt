@@ -1,11 +1,12 @@
 -- Parts of types and fields.
-use Rattle.std.specs.Prelude.{ℕ, List, [], ◌∷◌, Some, None, length}
+use Rattle.std.specs.Prelude.{ℕ, Bool, true, false, List, [], ◌∷◌, Some, None, length}
 use Rattle.clu_tree.specs.declared.lexeme.Key.TheVariants as key
 use Rattle.clu_tree.specs.declared.lexeme.Lexeme.TheVariants as lexeme
 use Rattle.clu_tree.specs.declared.shape.Shape.{Shape}
 use Rattle.clu_tree.specs.declared.shape.Shape.TheVariants as s
 use Rattle.clu_tree.specs.declared.shape.Named.{Named}
-use Rattle.clu_grammar.specs.ExprPlan.{Parser, ◌>>=◌, bracketed, shape, fields}
+use Rattle.clu_grammar.specs.Grammar.{Tokens, type_of}
+use Rattle.clu_grammar.specs.ExprPlan.{Parser, ◌>>=◌, bracketed, shape, fields, type_word_at}
 
 -- a name and the colon behind it
 abbrev pub label : Parser (List ℕ)
@@ -24,3 +25,16 @@ array_rest d m = shape d m >>= bracketed >>= λ t r. Some (s.Arr t, r)
 -- behind the opening bracket of a record's or a oneof's type
 abbrev pub fields_rest : ℕ → Parser (List Named)
 fields_rest d m = fields (shape d) (length m) m >>= bracketed
+
+-- a type of one reserved word
+abbrev pub word_at : Parser Shape
+word_at (lexeme.Key o _ ∷ r) = type_word_at (type_of o) r
+word_at _ = None
+
+-- a name or a type of several tokens
+abbrev pub is_long : Tokens → Bool
+is_long (lexeme.Name _ _ ∷ _) = true
+is_long (lexeme.Key key.Array _ ∷ _) = true
+is_long (lexeme.Key key.Record _ ∷ _) = true
+is_long (lexeme.Key key.Oneof _ ∷ _) = true
+is_long _ = false

@@ -83,17 +83,20 @@ impl SizedFields {
     }
 }
 
-/// Reads the type that this key, which comes next, names alone.
-fn word(cursor: &mut Cursor<'_>, key: Key) -> Result<SizedShape, ReadFault>
-    ensures gives { Gives (λ x. x.shape) result cursor.new (plan.type_word_at (grammar.type_of key) (drop 1 cursor.old)) }
+/// Reads a type of one reserved word.
+fn word(cursor: &mut Cursor<'_>) -> Result<SizedShape, ReadFault>
+    ensures gives { Gives (λ x. x.shape) result cursor.new (parts.word_at cursor.old) }
     ensures deep { IfOk result (λ x. x.height ≡ 1) }
 {
-    match type_of(key) {
-        Some(shape) => {
-            cursor.skip();
-            Ok(SizedShape { shape, height: 1 })
-        }
-        None => Err(ReadFault::Syntax(cursor.line())),
+    match cursor.peek() {
+        Some(Lexeme::Key(key, _)) => match type_of(*key) {
+            Some(shape) => {
+                cursor.skip();
+                Ok(SizedShape { shape, height: 1 })
+            }
+            None => Err(ReadFault::Syntax(cursor.line())),
+        },
+        _ => Err(ReadFault::Syntax(cursor.line())),
     }
 }
 
@@ -143,8 +146,7 @@ pub fn shape(alloc: Global, cursor: &mut Cursor<'_>, depth: u32) -> Result<Sized
             let found = fields_rest(alloc, cursor, depth - 1)?;
             Ok(found.into_oneof())
         }
-        Some(Lexeme::Key(key, _)) => word(cursor, *key),
-        _ => Err(ReadFault::Syntax(cursor.line())),
+        _ => word(cursor),
     }
 }
 
