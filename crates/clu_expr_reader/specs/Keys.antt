@@ -19,3 +19,8 @@ abbrev pub is_signed : Tokens → Bool
 is_signed (lexeme.Key key.Minus _ ∷ _) = true
 is_signed (lexeme.Key key.Tilde _ ∷ _) = true
 is_signed _ = false
+
+-- the tokens begin with an opening bracket
+abbrev pub opens : Tokens → Bool
+opens (lexeme.Key key.LParen _ ∷ _) = true
+opens _ = false

@@ -1,12 +1,13 @@
--- Parts of types and fields.
+-- Parts of types and expressions.
 use Rattle.std.specs.Prelude.{ℕ, Bool, true, false, List, [], ◌∷◌, Some, None, length}
 use Rattle.clu_tree.specs.declared.lexeme.Key.TheVariants as key
 use Rattle.clu_tree.specs.declared.lexeme.Lexeme.TheVariants as lexeme
 use Rattle.clu_tree.specs.declared.shape.Shape.{Shape}
 use Rattle.clu_tree.specs.declared.shape.Shape.TheVariants as s
 use Rattle.clu_tree.specs.declared.shape.Named.{Named}
+use Rattle.clu_tree.specs.declared.tree.Expr.{Expr}
 use Rattle.clu_grammar.specs.Grammar.{Tokens, type_of}
-use Rattle.clu_grammar.specs.ExprPlan.{Parser, ◌>>=◌, bracketed, shape, fields, type_word_at}
+use Rattle.clu_grammar.specs.ExprPlan.{Parser, ◌>>=◌, bracketed, shape, fields, type_word_at, items}
 
 -- a name and the colon behind it
 abbrev pub label : Parser (List ℕ)
@@ -38,3 +39,8 @@ is_long (lexeme.Key key.Array _ ∷ _) = true
 is_long (lexeme.Key key.Record _ ∷ _) = true
 is_long (lexeme.Key key.Oneof _ ∷ _) = true
 is_long _ = false
+
+-- the elements of an array behind an opening bracket, and the closing one
+abbrev pub elements : (ℕ → Parser Expr) → ℕ → Parser (List Expr)
+elements below d (lexeme.Key key.RBracket _ ∷ r) = Some ([], r)
+elements below d ts = items below d (length ts) ts >>= bracketed

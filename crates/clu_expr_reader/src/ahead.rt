@@ -31,7 +31,7 @@ impl<'a> Cursor<'a> {
 
     /// Passes over `.id` or `[..]`, and tells whether one of them came next.
     fn skip_suffix(&mut self) -> bool
-        ensures { (t : ℕ) → assigns (suc t) self.old ≡ (if result then assigns t self.new else becomes self.old) }
+        ensures { (t : ℕ) → assigns (suc t) self.old ≡ (if result then assigns t self.new else becomes self.new) }
     {
         match self.peek() {
             Some(Lexeme::Key(Key::Dot, _)) => match self.second() {

@@ -6,7 +6,7 @@ ghost use Rattle.clu_grammar.specs.Grammar.{line_of, prefix_of, Tokens};
 ghost use Rattle.clu_grammar.specs.Grammar as grammar;
 ghost use Rattle.clu_expr_reader.specs.Faults.{OnSyntax};
 ghost use Rattle.clu_expr_reader.specs.Gives.{Gives};
-ghost use Rattle.clu_expr_reader.specs.Keys.{HasKeys, BeginsWith, is_signed};
+ghost use Rattle.clu_expr_reader.specs.Keys.{HasKeys, BeginsWith, is_signed, opens};
 ghost use Rattle.clu_expr_reader.specs.Parts.{label};
 
 use crate::fault::ReadFault;
@@ -230,6 +230,16 @@ impl<'a> Cursor<'a> {
         match self.peek() {
             Some(Lexeme::Key(Key::Minus, line)) => Some((Prefix::Minus, *line)),
             Some(Lexeme::Key(Key::Tilde, line)) => Some((Prefix::Not, *line)),
+            _ => None,
+        }
+    }
+
+    /// The line of an opening bracket, if one comes next.
+    pub fn opening(&self) -> Option<u32>
+        ensures { MatchOption result (opens self.now ≡ false) (λ l. self.now ≡ Lexeme.Key Key.LParen l ∷ drop 1 self.now) }
+    {
+        match self.peek() {
+            Some(Lexeme::Key(Key::LParen, line)) => Some(*line),
             _ => None,
         }
     }

@@ -5,6 +5,7 @@ ghost use Rattle.clu_tree.specs.declared.tree.Expr.{Expr};
 ghost use Rattle.clu_grammar.specs.ExprPlan as plan;
 ghost use Rattle.clu_expr_reader.specs.Gives.{Gives};
 ghost use Rattle.clu_expr_reader.specs.Nests.{Nests};
+ghost use Rattle.clu_expr_reader.specs.Parts as parts;
 
 use crate::cursor::Cursor;
 use crate::fault::ReadFault;
@@ -15,6 +16,7 @@ use crate::node::{SizedExpr, SizedExprs, SizedInits};
 use crate::operation::op_name;
 use crate::types::{SizedShape, shape};
 use clu_tree::{Key, Lexeme, Text};
+use sqlite_items::Items;
 use std::alloc::{AllocError, Global};
 
 /// Reads expressions of at most `depth` levels, in which stand those that `expr` reads, of at most `below` levels.
@@ -38,13 +40,14 @@ fn closed(cursor: &mut Cursor<'_>, found: SizedExpr) -> Result<SizedExpr, ReadFa
 }
 
 /// Reads the opening brackets, and answers their lines, the first one first.
-fn open_brackets(alloc: Global, cursor: &mut Cursor<'_>) -> Result<Vec<u32>, AllocError>
-    ensures { IfOk result (λ lines. (below : ℕ → plan.Parser Expr) (d : ℕ) → plan.inside below d [] cursor.old ≡ plan.unwound below d (reverse lines.items) (plan.plain below d 5 cursor.new)) }
+#[tactic(auto, using(crate::proofs::Unwinding::brackets))]
+fn open_brackets(alloc: Global, cursor: &mut Cursor<'_>) -> Result<Items<u32>, AllocError>
+    ensures { IfOk result (λ lines. (below : ℕ → plan.Parser Expr) (d : ℕ) → plan.inside below d [] cursor.old ≡ plan.unwound below d (reverse lines) (plan.plain below d 5 cursor.new)) }
 {
-    let mut lines = Vec::new(alloc);
-    while let Some(Lexeme::Key(Key::LParen, line)) = cursor.peek() {
+    let mut lines = Items::new(alloc);
+    while let Some(line) = cursor.opening() {
         cursor.skip();
-        lines.push(*line)?;
+        lines.push(line)?;
     }
     Ok(lines)
 }
@@ -99,6 +102,19 @@ impl<F: Fn(Global, &mut Cursor<'_>, u32, u8) -> Result<SizedExpr, ReadFault>> Re
         Err(ReadFault::Syntax(cursor.line()))
     }
 
+    /// One or more expressions, and the bracket behind them.
+    fn enclosed(&self, cursor: &mut Cursor<'_>) -> Result<SizedExprs, ReadFault>
+        requires nests { Nests self.now.below (F.pre self.now.expr) (F.post self.now.expr) }
+        ensures { Gives (λ x. x.items) result cursor.new (plan.◌>>=◌ (plan.items (plan.levels self.now.below) self.now.depth (length cursor.old) cursor.old) plan.closed) }
+    {
+        let found = self.items(cursor)?;
+        if let Some(Lexeme::Key(Key::RParen, _)) = cursor.peek() {
+            cursor.skip();
+            return Ok(found);
+        }
+        Err(ReadFault::Syntax(cursor.line()))
+    }
+
     /// The arguments behind an opening bracket, and the closing one.
     #[tactic(auto, unfolding(clu_grammar::specs::ExprPlan::args))]
     pub fn args(&self, cursor: &mut Cursor<'_>) -> Result<SizedExprs, ReadFault>
@@ -109,16 +125,11 @@ impl<F: Fn(Global, &mut Cursor<'_>, u32, u8) -> Result<SizedExpr, ReadFault>> Re
             cursor.skip();
             return Ok(SizedExprs::new(self.alloc));
         }
-        let found = self.items(cursor)?;
-        if let Some(Lexeme::Key(Key::RParen, _)) = cursor.peek() {
-            cursor.skip();
-            return Ok(found);
-        }
-        Err(ReadFault::Syntax(cursor.line()))
+        self.enclosed(cursor)
     }
 
-    /// The elements of an array, and the bracket behind them.
-    fn elements(&self, cursor: &mut Cursor<'_>) -> Result<SizedExprs, ReadFault>
+    /// One or more expressions, and the bracket of an array behind them.
+    fn bracketed(&self, cursor: &mut Cursor<'_>) -> Result<SizedExprs, ReadFault>
         requires nests { Nests self.now.below (F.pre self.now.expr) (F.post self.now.expr) }
         ensures { Gives (λ x. x.items) result cursor.new (plan.◌>>=◌ (plan.items (plan.levels self.now.below) self.now.depth (length cursor.old) cursor.old) plan.bracketed) }
     {
@@ -128,6 +139,18 @@ impl<F: Fn(Global, &mut Cursor<'_>, u32, u8) -> Result<SizedExpr, ReadFault>> Re
             return Ok(found);
         }
         Err(ReadFault::Syntax(cursor.line()))
+    }
+
+    /// The elements of an array behind an opening bracket, and the closing one.
+    fn elements(&self, cursor: &mut Cursor<'_>) -> Result<SizedExprs, ReadFault>
+        requires nests { Nests self.now.below (F.pre self.now.expr) (F.post self.now.expr) }
+        ensures { Gives (λ x. x.items) result cursor.new (parts.elements (plan.levels self.now.below) self.now.depth cursor.old) }
+    {
+        if let Some(Lexeme::Key(Key::RBracket, _)) = cursor.peek() {
+            cursor.skip();
+            return Ok(SizedExprs::new(self.alloc));
+        }
+        self.bracketed(cursor)
     }
 
     /// One or more fields with their values.
@@ -163,7 +186,7 @@ impl<F: Fn(Global, &mut Cursor<'_>, u32, u8) -> Result<SizedExpr, ReadFault>> Re
     }
 
     /// What follows a type and `$`.
-    #[tactic(auto, unfolding(clu_grammar::specs::ExprPlan::behind_type))]
+    #[tactic(auto, using(crate::proofs::ExprSteps::behind_types), unfolding(clu_grammar::specs::ExprPlan::behind_type))]
     fn behind_type(
         &self,
         cursor: &mut Cursor<'_>,
@@ -181,11 +204,6 @@ impl<F: Fn(Global, &mut Cursor<'_>, u32, u8) -> Result<SizedExpr, ReadFault>> Re
                 node::record_of(cursor, self.depth, of, inits, line)
             }
             Some(Lexeme::Key(Key::LBracket, _)) => {
-                if let Some(Lexeme::Key(Key::RBracket, _)) = cursor.second() {
-                    cursor.skip_two();
-                    let none = SizedExprs::new(self.alloc);
-                    return node::array_of(cursor, self.depth, of, none, line);
-                }
                 cursor.skip();
                 let items = self.elements(cursor)?;
                 node::array_of(cursor, self.depth, of, items, line)
@@ -428,6 +446,7 @@ impl<F: Fn(Global, &mut Cursor<'_>, u32, u8) -> Result<SizedExpr, ReadFault>> Re
     }
 
     /// The operators up to this looseness, the tightest first, with their operands.
+    #[tactic(auto, unfolding(clu_grammar::specs::ExprPlan::binaries))]
     fn binaries(
         &self,
         cursor: &mut Cursor<'_>,
