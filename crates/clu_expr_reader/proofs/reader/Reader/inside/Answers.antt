@@ -37,5 +37,6 @@ returns-in_err-found-3 g c =
 
 pub returns : goal.returns
 returns g c =
+    let none : c.loop-line.lines ≡ [] × c.pop.new.self ≡ [] = c.in_default.ensures in
     c.loop-line.invariant
-    ∙ unwound-all (levels c.args.self.now.below) c.args.self.now.depth c.loop-line.lines (Some (c.loop-line.found.expr, c.loop-line.cursor)) c.in-None.ensures.0
+    ∙ unwound-all (levels c.args.self.now.below) c.args.self.now.depth c.loop-line.lines (Some (c.loop-line.found.expr, c.loop-line.cursor)) none.0
