@@ -10,6 +10,8 @@ mod literals;
 mod node;
 mod operation;
 mod reader;
+#[cfg(test)]
+mod tests;
 mod types;
 
 pub use cursor::Cursor;

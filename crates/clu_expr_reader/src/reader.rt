@@ -247,12 +247,7 @@ impl<F: Fn(Global, &mut Cursor<'_>, u32, u8) -> Result<SizedExpr, ReadFault>> Re
 
     /// What begins with a name. A bracket behind it opens its arguments, unless it begins the target of the next statement.
     #[tactic(auto, unfolding(clu_grammar::specs::ExprPlan::atom))]
-    fn named(
-        &self,
-        cursor: &mut Cursor<'_>,
-        name: &Text,
-        line: u32,
-    ) -> Result<SizedExpr, ReadFault>
+    fn named(&self, cursor: &mut Cursor<'_>, name: &Text, line: u32) -> Result<SizedExpr, ReadFault>
         requires small { self.now.depth ≤ 200 }
         requires at { cursor.old ≡ Lexeme.Name name.now line ∷ drop 1 cursor.old }
         requires nests { Nests self.now.below (F.pre self.now.expr) (F.post self.now.expr) }

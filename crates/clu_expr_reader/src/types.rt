@@ -152,11 +152,7 @@ pub fn shape(alloc: Global, cursor: &mut Cursor<'_>, depth: u32) -> Result<Sized
 
 /// Reads what stands behind the opening bracket of an array's type.
 #[cycle(shape)]
-fn array_rest(
-    alloc: Global,
-    cursor: &mut Cursor<'_>,
-    depth: u32,
-) -> Result<SizedShape, ReadFault>
+fn array_rest(alloc: Global, cursor: &mut Cursor<'_>, depth: u32) -> Result<SizedShape, ReadFault>
     requires { depth < 200 }
     ensures gives { Gives (λ x. x.shape) result cursor.new (parts.array_rest depth cursor.old) }
     ensures deep { IfOk result (λ x. x.height ≤ depth + 1) }
@@ -175,11 +171,7 @@ fn array_rest(
 
 /// Reads what stands behind the opening bracket of a record's or a oneof's type.
 #[cycle(shape)]
-fn fields_rest(
-    alloc: Global,
-    cursor: &mut Cursor<'_>,
-    depth: u32,
-) -> Result<SizedFields, ReadFault>
+fn fields_rest(alloc: Global, cursor: &mut Cursor<'_>, depth: u32) -> Result<SizedFields, ReadFault>
     requires { depth < 200 }
     ensures gives { Gives (λ x. x.fields) result cursor.new (parts.fields_rest depth cursor.old) }
     ensures deep { IfOk result (λ x. x.height ≤ depth) }

@@ -12,28 +12,28 @@ pub fields-returns-in_err-name-clause-gives : goal.fields-returns-in_err-name-cl
 unfolding fields
 fields-returns-in_err-name-clause-gives t c =
     let e = one_more (λ n. fields (shape c.args.depth) n c.loop-turn.cursor >>= λ fs r. Some (c.loop-turn.found.fields ++ fs, r)) _ c.loop-turn._turn c.loop-turn-test.true c.loop-turn.invariant.gives
-        ∙ ap (λ (z : Found (List Named)). z >>= λ fs r. Some (c.loop-turn.found.fields ++ fs, r)) (fields-step (shape c.args.depth) _ c.loop-turn.cursor) in
+    ∙ ap (λ (z : Found (List Named)). z >>= λ fs r. Some (c.loop-turn.found.fields ++ fs, r)) (fields-step (shape c.args.depth) _ c.loop-turn.cursor) in
     first_of (search rules, grind (arith, common_steps), grind (arith, field_steps))
 
 pub fields-returns-in_err-of-clause-gives : goal.fields-returns-in_err-of-clause-gives
 unfolding fields
 fields-returns-in_err-of-clause-gives t c =
     let e = one_more (λ n. fields (shape c.args.depth) n c.loop-turn.cursor >>= λ fs r. Some (c.loop-turn.found.fields ++ fs, r)) _ c.loop-turn._turn c.loop-turn-test.true c.loop-turn.invariant.gives
-        ∙ ap (λ (z : Found (List Named)). z >>= λ fs r. Some (c.loop-turn.found.fields ++ fs, r)) (fields-step (shape c.args.depth) _ c.loop-turn.cursor) in
+    ∙ ap (λ (z : Found (List Named)). z >>= λ fs r. Some (c.loop-turn.found.fields ++ fs, r)) (fields-step (shape c.args.depth) _ c.loop-turn.cursor) in
     first_of (search rules, grind (arith, common_steps), grind (arith, field_steps))
 
 pub fields-returns-in_default-clause-gives : goal.fields-returns-in_default-clause-gives
 unfolding fields
 fields-returns-in_default-clause-gives t c =
     let e = one_more (λ n. fields (shape c.args.depth) n c.loop-turn.cursor >>= λ fs r. Some (c.loop-turn.found.fields ++ fs, r)) _ c.loop-turn._turn c.loop-turn-test.true c.loop-turn.invariant.gives
-        ∙ ap (λ (z : Found (List Named)). z >>= λ fs r. Some (c.loop-turn.found.fields ++ fs, r)) (fields-step (shape c.args.depth) _ c.loop-turn.cursor) in
+    ∙ ap (λ (z : Found (List Named)). z >>= λ fs r. Some (c.loop-turn.found.fields ++ fs, r)) (fields-step (shape c.args.depth) _ c.loop-turn.cursor) in
     first_of (search rules, grind (arith, common_steps), grind (arith, field_steps))
 
 pub fields-loop-turn-preserved : goal.fields-loop-turn-preserved
 unfolding fields
 fields-loop-turn-preserved t c =
     let e = one_more (λ n. fields (shape c.args.depth) n c.loop-turn.cursor >>= λ fs r. Some (c.loop-turn.found.fields ++ fs, r)) _ c.loop-turn._turn c.loop-turn-test.true c.loop-turn.invariant.gives
-        ∙ ap (λ (z : Found (List Named)). z >>= λ fs r. Some (c.loop-turn.found.fields ++ fs, r)) (fields-step (shape c.args.depth) _ c.loop-turn.cursor) in
+    ∙ ap (λ (z : Found (List Named)). z >>= λ fs r. Some (c.loop-turn.found.fields ++ fs, r)) (fields-step (shape c.args.depth) _ c.loop-turn.cursor) in
     first_of (search rules, grind (arith, common_steps), grind (arith, field_steps))
 
 pub fields-returns-clause-gives : goal.fields-returns-clause-gives

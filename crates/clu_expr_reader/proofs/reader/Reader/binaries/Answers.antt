@@ -13,7 +13,7 @@ loop-tighter-init g c = binaries-none (levels c.args.self.now.below) c.args.self
 pub loop-tighter-preserved : goal.loop-tighter-preserved
 loop-tighter-preserved g c =
     let e = binaries-more (levels c.args.self.now.below) c.args.self.now.depth c.args.line c.args.first.expr c.args.cursor.now
-        c.loop-tighter.tighter (c.loop-tighter.tighter + 1) c.loop-tighter.left.expr c.loop-tighter.cursor (omega arith) c.loop-tighter.invariant in
+    c.loop-tighter.tighter (c.loop-tighter.tighter + 1) c.loop-tighter.left.expr c.loop-tighter.cursor (omega arith) c.loop-tighter.invariant in
     first_of (search rules, grind (arith, common_steps))
 
 pub returns : goal.returns

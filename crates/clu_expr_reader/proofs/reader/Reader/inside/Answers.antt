@@ -7,7 +7,7 @@ use Rattle.clu_expr_reader.proofs.reader.Reader.inside.Goals as goal
 pub loop-line-preserved : goal.loop-line-preserved
 loop-line-preserved g c =
     let e = c.loop-line.invariant
-        ∙ unwound-last (levels c.args.self.now.below) c.args.self.now.depth c.loop-line.lines c.pop.new.self c.in-Some.line (Some (c.loop-line.found.expr, c.loop-line.cursor)) c.in-Some.ensures in
+    ∙ unwound-last (levels c.args.self.now.below) c.args.self.now.depth c.loop-line.lines c.pop.new.self c.in-Some.line (Some (c.loop-line.found.expr, c.loop-line.cursor)) c.in-Some.ensures in
     first_of (search rules, grind (arith, common_steps))
 
 pub loop-line-init : goal.loop-line-init
@@ -24,14 +24,14 @@ returns-in_err-found g c =
 pub returns-in_err-found-2 : goal.returns-in_err-found-2
 returns-in_err-found-2 g c =
     let e = c.loop-line.invariant
-        ∙ unwound-last (levels c.args.self.now.below) c.args.self.now.depth c.loop-line.lines c.pop.new.self c.in-Some.line (Some (c.loop-line.found.expr, c.loop-line.cursor)) c.in-Some.ensures in
+    ∙ unwound-last (levels c.args.self.now.below) c.args.self.now.depth c.loop-line.lines c.pop.new.self c.in-Some.line (Some (c.loop-line.found.expr, c.loop-line.cursor)) c.in-Some.ensures in
     let n = unwound-none (levels c.args.self.now.below) c.args.self.now.depth (reverse c.pop.new.self) in
     first_of (search rules, grind (arith, common_steps))
 
 pub returns-in_err-found-3 : goal.returns-in_err-found-3
 returns-in_err-found-3 g c =
     let e = c.loop-line.invariant
-        ∙ unwound-last (levels c.args.self.now.below) c.args.self.now.depth c.loop-line.lines c.pop.new.self c.in-Some.line (Some (c.loop-line.found.expr, c.loop-line.cursor)) c.in-Some.ensures in
+    ∙ unwound-last (levels c.args.self.now.below) c.args.self.now.depth c.loop-line.lines c.pop.new.self c.in-Some.line (Some (c.loop-line.found.expr, c.loop-line.cursor)) c.in-Some.ensures in
     let n = unwound-none (levels c.args.self.now.below) c.args.self.now.depth (reverse c.pop.new.self) in
     first_of (search rules, grind (arith, common_steps))
 

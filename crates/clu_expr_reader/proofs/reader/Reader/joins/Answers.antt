@@ -14,21 +14,21 @@ pub returns-in_err-left-in-Some : goal.returns-in_err-left-in-Some
 returns-in_err-left-in-Some g c =
     let s = c.in-Some.ensures in
     let e = one_more (λ n. joins (levels c.args.self.now.below) c.args.self.now.depth n c.args.looseness c.args.line c.loop-turn.left.expr c.loop-turn.cursor) _ c.loop-turn._turn c.loop-turn-test.true c.loop-turn.invariant
-        ∙ joins-same (levels c.args.self.now.below) c.args.self.now.depth c.args.looseness c.args.line _ c.in-Some.key s.1.0 c.loop-turn.left.expr c.loop-turn.cursor (drop 1 c.loop-turn.cursor) s.1.1 (omega arith) in
+    ∙ joins-same (levels c.args.self.now.below) c.args.self.now.depth c.args.looseness c.args.line _ c.in-Some.key s.1.0 c.loop-turn.left.expr c.loop-turn.cursor (drop 1 c.loop-turn.cursor) s.1.1 (omega arith) in
     first_of (search rules, grind (arith, common_steps))
 
 pub returns-then-not-repeats : goal.returns-then-not-repeats
 returns-then-not-repeats g c =
     let s = c.in-Some.ensures in
     let e = one_more (λ n. joins (levels c.args.self.now.below) c.args.self.now.depth n c.args.looseness c.args.line c.loop-turn.left.expr c.loop-turn.cursor) _ c.loop-turn._turn c.loop-turn-test.true c.loop-turn.invariant
-        ∙ joins-same (levels c.args.self.now.below) c.args.self.now.depth c.args.looseness c.args.line _ c.in-Some.key s.1.0 c.loop-turn.left.expr c.loop-turn.cursor (drop 1 c.loop-turn.cursor) s.1.1 (omega arith) in
+    ∙ joins-same (levels c.args.self.now.below) c.args.self.now.depth c.args.looseness c.args.line _ c.in-Some.key s.1.0 c.loop-turn.left.expr c.loop-turn.cursor (drop 1 c.loop-turn.cursor) s.1.1 (omega arith) in
     first_of (search rules, grind (arith, common_steps))
 
 pub loop-turn-preserved : goal.loop-turn-preserved
 loop-turn-preserved g c =
     let s = c.in-Some.ensures in
     let e = one_more (λ n. joins (levels c.args.self.now.below) c.args.self.now.depth n c.args.looseness c.args.line c.loop-turn.left.expr c.loop-turn.cursor) _ c.loop-turn._turn c.loop-turn-test.true c.loop-turn.invariant
-        ∙ joins-same (levels c.args.self.now.below) c.args.self.now.depth c.args.looseness c.args.line _ c.in-Some.key s.1.0 c.loop-turn.left.expr c.loop-turn.cursor (drop 1 c.loop-turn.cursor) s.1.1 (omega arith) in
+    ∙ joins-same (levels c.args.self.now.below) c.args.self.now.depth c.args.looseness c.args.line _ c.in-Some.key s.1.0 c.loop-turn.left.expr c.loop-turn.cursor (drop 1 c.loop-turn.cursor) s.1.1 (omega arith) in
     first_of (search rules, grind (arith, common_steps))
 
 pub returns-in-None : goal.returns-in-None
