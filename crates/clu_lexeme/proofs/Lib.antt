@@ -1,0 +1,5 @@
+mod Numbers
+mod Contents
+mod Keys
+mod Listing
+mod OneWay
