@@ -3,7 +3,7 @@ use Rattle.std.specs.Prelude.{◌==◌, if◌then◌else◌, ◌⊎◌, ◌≢�
 use Rattle.std.proofs.Common.{inl, inr}
 use Rattle.std.proofs.lemmas.Bool.Decides.{eqb_tells}
 use Rattle.std.proofs.lemmas.Bool.{eq-eqb, cond-true, cond-false}
-use Rattle.std.proofs.Common.{◌≡◌, ℕ, zero, suc, ◌+◌, ◌-◌, ◌<◌, ◌≤◌, Bool, true, false, List, [], ◌∷◌, ◌++◌, length, Option, Some, None, refl, ap, sym, ◌∙◌, arith, append_assoc}
+use Rattle.std.proofs.Common.{◌≡◌, ℕ, zero, suc, ◌+◌, ◌-◌, ◌<◌, true, false, List, [], ◌∷◌, ◌++◌, Option, Some, None, refl, ap, sym, ◌∙◌, arith, append_assoc}
 use Rattle.clu_tree.specs.declared.lexeme.Key.{Key}
 use Rattle.clu_tree.specs.declared.lexeme.Key.TheVariants as key
 use Rattle.clu_tree.specs.declared.lexeme.Lexeme.TheVariants as lexeme
@@ -15,7 +15,7 @@ use Rattle.clu_tree.specs.declared.tree.Expr.TheVariants as e
 use Rattle.clu_tree.specs.declared.tree.FieldInit.{FieldInit}
 use Rattle.clu_tree.specs.declared.shape.Shape.{Shape}
 use Rattle.clu_grammar.specs.Grammar.{Tokens, line_of, prefix_of, looseness, repeats}
-use Rattle.clu_grammar.specs.ExprPlan.{Found, Parser, ◌>>=◌, shape, items, inits, inits_after, operand, atom, postfix, expr_within, join, joins, binaries, behind_type}
+use Rattle.clu_grammar.specs.ExprPlan.{Found, Parser, ◌>>=◌, shape, inits, inits_after, operand, atom, postfix, expr_within, join, joins, binaries, behind_type}
 use Rattle.clu_expr_reader.specs.Keys.{is_signed}
 use Rattle.clu_expr_reader.specs.Parts.{label, elements}
 

@@ -1,5 +1,5 @@
 -- The levels of nodes, and of lists that grow.
-use Rattle.std.proofs.Common.{◌≡◌, ℕ, ◌+◌, ◌≤◌, max, List, [], ◌∷◌, ◌++◌, map, refl, ap, sym, ◌∙◌, arith, Some}
+use Rattle.std.proofs.Common.{◌≡◌, ℕ, max, List, [], ◌∷◌, ◌++◌, map, ap, sym, ◌∙◌, arith, Some}
 use Rattle.clu_tree.specs.declared.lexeme.Key.{Key}
 use Rattle.clu_tree.specs.declared.lexeme.Key.TheVariants as key
 use Rattle.clu_tree.specs.declared.shape.Shape.{Shape}

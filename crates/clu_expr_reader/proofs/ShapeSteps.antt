@@ -1,12 +1,11 @@
 -- How a reader goes over types, as the code takes it.
-use Rattle.std.proofs.Common.{◌≡◌, ℕ, zero, suc, Bool, true, false, ◌+◌, ◌-◌, ◌<◌, List, [], ◌∷◌, ◌++◌, length, Option, Some, None, refl, ap, sym, ◌∙◌, arith, append_assoc}
-use Rattle.clu_tree.specs.declared.lexeme.Key.{Key}
+use Rattle.std.proofs.Common.{◌≡◌, ℕ, zero, suc, false, ◌-◌, ◌<◌, List, [], ◌∷◌, ◌++◌, Option, Some, None, refl, ap, sym, ◌∙◌, arith, append_assoc}
 use Rattle.clu_tree.specs.declared.lexeme.Key.TheVariants as key
 use Rattle.clu_tree.specs.declared.lexeme.Lexeme.TheVariants as lexeme
 use Rattle.clu_tree.specs.declared.shape.Shape.{Shape}
 use Rattle.clu_tree.specs.declared.shape.Shape.TheVariants as s
 use Rattle.clu_tree.specs.declared.shape.Named.{Named}
-use Rattle.clu_grammar.specs.Grammar.{Tokens, field_of}
+use Rattle.clu_grammar.specs.Grammar.{Tokens}
 use Rattle.clu_grammar.specs.ExprPlan.{Found, Parser, ◌>>=◌, shape, fields, fields_after}
 use Rattle.clu_expr_reader.specs.Parts.{label, opened, array_rest, fields_rest, word_at, is_long}
 

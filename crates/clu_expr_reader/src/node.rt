@@ -1,4 +1,4 @@
-//! Expressions, with how deep each is.
+//! Expressions, with how deep each is. What has more than `depth` levels is a `Syntax` at the next token.
 #![tactic(auto, using(crate::proofs::Nodes::nodes), unfolding(clu_grammar::specs::ExprPlan::within))]
 
 ghost use Rattle.std.specs.Prelude.{◌≡◌, ◌+◌, max, List, [], ◌∷◌, ◌++◌, map, ◌≤◌, ◌<◌, ◌^◌, IfOk, OnOk};
@@ -43,6 +43,7 @@ pub struct SizedInits {
 }
 
 impl SizedExprs {
+    /// No expressions.
     pub fn new(alloc: Global) -> SizedExprs
         ensures { result.items ≡ [] }
     {
@@ -52,6 +53,7 @@ impl SizedExprs {
         }
     }
 
+    /// Puts an expression behind the others.
     #[tactic(auto, using(crate::proofs::Nodes::pushes))]
     pub fn push(&mut self, last: SizedExpr) -> Result<(), AllocError>
         ensures { OnOk result (self.new.items ≡ self.old.items ++ last.expr ∷ []) }
@@ -63,6 +65,7 @@ impl SizedExprs {
 }
 
 impl SizedInits {
+    /// No fields.
     pub fn new(alloc: Global) -> SizedInits
         ensures { result.inits ≡ [] }
     {
@@ -72,6 +75,7 @@ impl SizedInits {
         }
     }
 
+    /// Puts a field with its value behind the others.
     #[tactic(auto, using(crate::proofs::Nodes::pushes))]
     pub fn push(&mut self, name: Text, last: SizedExpr) -> Result<(), AllocError>
         ensures { OnOk result (self.new.inits ≡ self.old.inits ++ init_of name last.expr ∷ []) }
@@ -85,7 +89,7 @@ impl SizedInits {
     }
 }
 
-/// The expression, if it has at most `depth` levels.
+/// The expression, which has so many levels, if those are at most `depth`.
 pub fn fit(cursor: &Cursor<'_>, depth: u32, expr: Expr, height: u32) -> Result<SizedExpr, ReadFault>
     requires nests { height ≡ expr_nesting expr }
     requires small { depth ≤ 200 }
@@ -97,6 +101,7 @@ pub fn fit(cursor: &Cursor<'_>, depth: u32, expr: Expr, height: u32) -> Result<S
     Ok(SizedExpr { expr, height })
 }
 
+/// A literal, if `depth` allows its one level.
 pub fn literal(
     cursor: &Cursor<'_>,
     depth: u32,
@@ -109,6 +114,7 @@ pub fn literal(
     fit(cursor, depth, Expr::Literal(value, line), 1)
 }
 
+/// A name, if `depth` allows its one level.
 pub fn name(cursor: &Cursor<'_>, depth: u32, text: Text, line: u32) -> Result<SizedExpr, ReadFault>
     requires { depth ≤ 200 }
     ensures { Gives (λ x. x.expr) result cursor.now (expr_within depth (Expr.Name text line Meant.Unknown) cursor.now) }
@@ -116,6 +122,7 @@ pub fn name(cursor: &Cursor<'_>, depth: u32, text: Text, line: u32) -> Result<Si
     fit(cursor, depth, Expr::Name(text, line, Meant::Unknown), 1)
 }
 
+/// `now()`, if `depth` allows its one level.
 pub fn now(cursor: &Cursor<'_>, depth: u32, line: u32) -> Result<SizedExpr, ReadFault>
     requires { depth ≤ 200 }
     ensures { Gives (λ x. x.expr) result cursor.now (expr_within depth (Expr.Now line) cursor.now) }
@@ -123,6 +130,7 @@ pub fn now(cursor: &Cursor<'_>, depth: u32, line: u32) -> Result<SizedExpr, Read
     fit(cursor, depth, Expr::Now(line), 1)
 }
 
+/// A call of a routine, if it has at most `depth` levels.
 pub fn call(
     cursor: &Cursor<'_>,
     depth: u32,
@@ -138,6 +146,7 @@ pub fn call(
     fit(cursor, depth, node, height)
 }
 
+/// `T$op(..)`, if it has at most `depth` levels.
 pub fn operation(
     cursor: &Cursor<'_>,
     depth: u32,
@@ -154,6 +163,7 @@ pub fn operation(
     fit(cursor, depth, node, height)
 }
 
+/// `T${..}`, if it has at most `depth` levels.
 pub fn record_of(
     cursor: &Cursor<'_>,
     depth: u32,
@@ -169,6 +179,7 @@ pub fn record_of(
     fit(cursor, depth, node, height)
 }
 
+/// `T$[..]`, if it has at most `depth` levels.
 pub fn array_of(
     cursor: &Cursor<'_>,
     depth: u32,
@@ -184,6 +195,7 @@ pub fn array_of(
     fit(cursor, depth, node, height)
 }
 
+/// An operator before its operand, if it has at most `depth` levels.
 pub fn unary(
     alloc: Global,
     cursor: &Cursor<'_>,
@@ -200,6 +212,7 @@ pub fn unary(
     fit(cursor, depth, node, height)
 }
 
+/// `up(..)`, if it has at most `depth` levels.
 pub fn up(
     alloc: Global,
     cursor: &Cursor<'_>,
@@ -215,6 +228,7 @@ pub fn up(
     fit(cursor, depth, node, height)
 }
 
+/// `down(..)`, if it has at most `depth` levels.
 pub fn down(
     alloc: Global,
     cursor: &Cursor<'_>,
@@ -230,6 +244,7 @@ pub fn down(
     fit(cursor, depth, node, height)
 }
 
+/// A field of an expression, if it has at most `depth` levels.
 pub fn field(
     alloc: Global,
     cursor: &Cursor<'_>,
@@ -246,6 +261,7 @@ pub fn field(
     fit(cursor, depth, node, height)
 }
 
+/// An element of an expression, if it has at most `depth` levels.
 pub fn index(
     alloc: Global,
     cursor: &Cursor<'_>,
@@ -271,7 +287,7 @@ fn binary(alloc: Global, left: Expr, op: Infix, right: Expr, line: u32) -> Resul
     Ok(Expr::Binary(left, op, right, line, Meant::Unknown))
 }
 
-/// Two operands with the symbol between them.
+/// Two operands with the symbol between them, if they have at most `depth` levels. `a ~= b` is `~(a = b)`, two levels.
 pub fn join(
     alloc: Global,
     cursor: &Cursor<'_>,

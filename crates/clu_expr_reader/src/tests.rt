@@ -281,7 +281,7 @@ fn nests_to_200_levels(rt: HostRuntime) -> Result<(), Fail> {
     ] {
         let reached = height(rt.alloc(), front, middle, behind, most)?;
         assert_eq!(rt; reached, height_then, "{front}{middle}{behind}");
-        let beyond = height(rt.alloc(), front, middle, behind, most + 1)?;
+        let beyond = height(rt.alloc(), front, middle, behind, most.saturating_add(1))?;
         assert_eq!(rt; beyond, 0, "{front}{middle}{behind}");
     }
     Ok(())

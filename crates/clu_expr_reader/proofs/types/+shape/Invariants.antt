@@ -1,4 +1,4 @@
-use Rattle.std.proofs.Common.{◌≡◌, ◌-◌, ◌+◌, ◌*◌, ◌≤◌, length, List, ◌++◌, Some}
+use Rattle.std.proofs.Common.{◌≡◌, ◌-◌, ◌+◌, ◌*◌, ◌≤◌, length, ◌++◌, Some}
 use Rattle.clu_grammar.specs.ExprPlan.{shape, fields, ◌>>=◌}
 use Rattle.clu_expr_reader.proofs.types.+shape.Given as goal
 

@@ -1,6 +1,6 @@
-use Rattle.std.proofs.Common.{◌≡◌, ◌+◌, ◌-◌, ◌∙◌, sym, arith, rules}
+use Rattle.std.proofs.Common.{◌+◌, ◌-◌, arith, rules}
 use Rattle.std.proofs.lemmas.Grind.{common_steps}
-use Rattle.clu_grammar.specs.Ahead.{assigns, is_target}
+use Rattle.clu_grammar.specs.Ahead.{assigns}
 use Rattle.clu_expr_reader.proofs.Turns.{one_more}
 use Rattle.clu_expr_reader.proofs.cursor.Cursor.is_target.Goals as goal
 

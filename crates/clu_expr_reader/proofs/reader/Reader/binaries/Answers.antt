@@ -1,6 +1,6 @@
-use Rattle.std.proofs.Common.{◌≡◌, ℕ, suc, ◌+◌, ◌-◌, refl, rules, arith, ap, ◌∙◌, Some, None}
+use Rattle.std.proofs.Common.{◌+◌, refl, rules, arith}
 use Rattle.std.proofs.lemmas.Grind.{common_steps}
-use Rattle.clu_grammar.specs.ExprPlan.{levels, binaries, joins}
+use Rattle.clu_grammar.specs.ExprPlan.{levels}
 use Rattle.clu_tree.specs.declared.tree.Expr.{Expr}
 use Rattle.clu_expr_reader.specs.declared.node.SizedExpr.{SizedExpr}
 use Rattle.clu_expr_reader.proofs.Faulting.{passed_on}

@@ -1,4 +1,4 @@
-use Rattle.std.proofs.Common.{◌≡◌, ℕ, suc, ◌+◌, ◌-◌, ◌++◌, List, Some, ap, ◌∙◌, rules, arith}
+use Rattle.std.proofs.Common.{◌++◌, List, Some, ap, ◌∙◌, rules, arith}
 use Rattle.std.proofs.lemmas.Grind.{common_steps}
 use Rattle.clu_tree.specs.declared.tree.FieldInit.{FieldInit}
 use Rattle.clu_grammar.specs.ExprPlan.{Found, ◌>>=◌, levels, inits}

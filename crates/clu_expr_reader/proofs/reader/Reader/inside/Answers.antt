@@ -1,6 +1,6 @@
-use Rattle.std.proofs.Common.{◌≡◌, ℕ, [], ◌∷◌, ◌++◌, reverse, rules, arith, ap, ◌∙◌, Some, None}
+use Rattle.std.proofs.Common.{◌≡◌, [], reverse, rules, arith, ◌∙◌, Some}
 use Rattle.std.proofs.lemmas.Grind.{common_steps}
-use Rattle.clu_grammar.specs.ExprPlan.{levels, inside, unwound, plain}
+use Rattle.clu_grammar.specs.ExprPlan.{levels}
 use Rattle.clu_expr_reader.proofs.Unwinding.{unwound-none, unwound-last, unwound-all}
 use Rattle.clu_expr_reader.proofs.reader.Reader.inside.Goals as goal
 

@@ -1,7 +1,7 @@
-use Rattle.std.proofs.Common.{◌≡◌, ℕ, suc, ◌+◌, ◌-◌, ◌++◌, List, Some, ap, ◌∙◌, rules, arith}
+use Rattle.std.proofs.Common.{◌++◌, Some, rules, arith}
 use Rattle.std.proofs.lemmas.Grind.{common_steps}
-use Rattle.clu_grammar.specs.ExprPlan.{Found, ◌>>=◌, levels, items}
-use Rattle.clu_expr_reader.proofs.Turns.{one_more, no_more}
+use Rattle.clu_grammar.specs.ExprPlan.{◌>>=◌, levels, items}
+use Rattle.clu_expr_reader.proofs.Turns.{one_more}
 use Rattle.clu_expr_reader.proofs.ExprSteps.{items-front}
 use Rattle.clu_expr_reader.proofs.reader.Reader.items.Goals as goal
 

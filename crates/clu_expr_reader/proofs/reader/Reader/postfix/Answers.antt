@@ -1,4 +1,4 @@
-use Rattle.std.proofs.Common.{◌≡◌, ℕ, suc, ◌+◌, ◌-◌, rules, arith, ap}
+use Rattle.std.proofs.Common.{◌≡◌, suc, ◌+◌, ◌-◌, rules, arith, ap}
 use Rattle.std.proofs.lemmas.Grind.{common_steps}
 use Rattle.clu_grammar.specs.ExprPlan.{levels, postfix}
 use Rattle.clu_expr_reader.proofs.Turns.{one_more, no_more}
