@@ -18,3 +18,4 @@ pub mod ProgramNesting
 pub mod ProgramSound
 pub mod ProgramComplete
 pub mod ProgramBoth
+pub mod Few

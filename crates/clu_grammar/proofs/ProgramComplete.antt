@@ -68,19 +68,19 @@ shrinks-signals : {ts r : Tokens} {xs : List Listed} → ReadsSignals ts r xs �
 shrinks-signals g.no_signals = omega arith
 shrinks-signals (g.signals p) = omega (arith, shrinks-listed p)
 
-shrinks-routine : {ts r : Tokens} {x : Routine} → ReadsRoutine ts r x → length r < length ts
+pub shrinks-routine : {ts r : Tokens} {x : Routine} → ReadsRoutine ts r x → length r < length ts
 shrinks-routine (g.routine p t s b e) = omega (arith, shrinks-params p, shrinks-result t, shrinks-signals s, shrinks-body b)
 
 shrinks-routines : {ts r : Tokens} {xs : List Routine} → ReadsRoutines ts r xs → length r ≤ length ts
 shrinks-routines g.no_routines = omega arith
 shrinks-routines (g.routine_and p q) = omega (arith, shrinks-routine p, shrinks-routines q)
 
-shrinks-node_parts : {ts r : Tokens} {xs : List NodePart} → ReadsNodeParts ts r xs → length r < length ts
+pub shrinks-node_parts : {ts r : Tokens} {xs : List NodePart} → ReadsNodeParts ts r xs → length r < length ts
 shrinks-node_parts g.parts_end = omega arith
 shrinks-node_parts (g.export p) = omega (arith, shrinks-node_parts p)
 shrinks-node_parts (g.start p q) = omega (arith, shrinks-values p, shrinks-node_parts q)
 
-shrinks-initial : {ts r : Tokens} {x : Initial} → ReadsInitial ts r x → length r < length ts
+pub shrinks-initial : {ts r : Tokens} {x : Initial} → ReadsInitial ts r x → length r < length ts
 shrinks-initial (g.from_literal p) = shrinks-signed p
 shrinks-initial (g.from_lock e) = omega arith
 shrinks-initial (g.from_semaphore e) = omega arith

@@ -1,6 +1,6 @@
 -- What the plan of programs finds is read so.
 use Rattle.std.proofs.Common.{◌≡◌, ℕ, zero, suc, ◌≤◌, Bool, true, false, cond, List, [], ◌∷◌, length, map, Option, Some, None, refl, ap, subst, sym, ◌∙◌, arith, inl, inr, codes}
-use Rattle.std.specs.Prelude.{ℤ, ◌⊎◌, bytes_eq}
+use Rattle.std.specs.Prelude.{ℤ, pos, ◌⊎◌, bytes_eq}
 use Rattle.std.proofs.lemmas.Slice.Eq.{bytes_eq-Decides}
 use Rattle.clu_tree.specs.declared.lexeme.Key.TheVariants as key
 use Rattle.clu_tree.specs.declared.lexeme.Lexeme.TheVariants as lexeme
@@ -30,7 +30,7 @@ use Rattle.clu_grammar.proofs.ProgramNesting.{part_nesting, nests-Program}
 -- ---- literals
 
 signed-sound : (ts : Tokens) (y : Value × Tokens) → plan.signed_at ts ≡ Some y → ReadsSigned ts y.1 y.0
-signed-sound (lexeme.Key key.Minus k ∷ lexeme.Int x l ∷ r) y h = same_found (λ z q. ReadsSigned (lexeme.Key key.Minus k ∷ lexeme.Int x l ∷ r) q z) _ r y h g.negated
+signed-sound (lexeme.Key key.Minus k ∷ lexeme.Int (pos x) l ∷ r) y h = same_found (λ z q. ReadsSigned (lexeme.Key key.Minus k ∷ lexeme.Int (pos x) l ∷ r) q z) _ r y h g.negated
 signed-sound ts y h = g.unsigned (literal_at-sound ts y h)
 
 values_after-sound : (others : Parser (List Value)) → ((m : Tokens) (z : List Value × Tokens) → others m ≡ Some z → ReadsValueList m z.1 z.0) →
@@ -297,7 +297,7 @@ module _ (deep : ℕ) where
       own_ok (λ (v : Part) (q : Tokens). SoundPart (lexeme.Name x l ∷ lexeme.Key key.Equals k ∷ lexeme.Key key.Cluster j ∷ lexeme.Key key.Is h ∷ a) (v, q)) x (ACluster x b.0.0 t.0.0 u.0.0 l) u.0.1 y u.2
       (λ z m i r f w. (g.cluster xs s.0 (subst (λ q. ReadsRoutines t.0.1 q u.0.0) w rs.0) f, omega (arith, s.1, rs.1)))
 
-  part-sound : (ts : Tokens) (y : Part × Tokens) → plan.part deep ts ≡ Some y → SoundPart ts y
+  pub part-sound : (ts : Tokens) (y : Part × Tokens) → plan.part deep ts ≡ Some y → SoundPart ts y
   unfolding plan.part
   part-sound (lexeme.Key key.Nodevar l ∷ lexeme.Name x k ∷ lexeme.Key key.Colon j ∷ m) y h =
       let b = bind_ok (shape deep m) _ h in

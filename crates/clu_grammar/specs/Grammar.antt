@@ -1,5 +1,5 @@
 -- What tokens read as, one case for each alternative of the grammar. `ReadsX ts r x`: the tokens ts begin with those of x, and r is what follows.
-use Rattle.std.specs.Prelude.{ℕ, zero, suc, ◌≡◌, Bool, true, false, List, [], ◌∷◌, ◌++◌, length, Option, Some, None, ℤ, neg_ℤ, codes}
+use Rattle.std.specs.Prelude.{ℕ, zero, suc, ◌≡◌, Bool, true, false, List, [], ◌∷◌, ◌++◌, length, Option, Some, None, ℤ, pos, neg_ℤ, codes}
 use Rattle.clu_tree.specs.Lexical.{word_of}
 use Rattle.clu_tree.specs.declared.lexeme.Key.{Key}
 use Rattle.clu_tree.specs.declared.lexeme.Key.TheVariants as key
@@ -106,7 +106,7 @@ pub data ReadsLiteral : Tokens → Tokens → Value → Type 0 where
 -- outside expressions a literal may have a sign
 pub data ReadsSigned : Tokens → Tokens → Value → Type 0 where
   unsigned : {ts r : Tokens} {x : Value} → ReadsLiteral ts r x → ReadsSigned ts r x
-  negated : {n : ℤ} {l k : ℕ} {r : Tokens} → ReadsSigned (lexeme.Key key.Minus k ∷ lexeme.Int n l ∷ r) r (v.Int (neg_ℤ n))
+  negated : {n l k : ℕ} {r : Tokens} → ReadsSigned (lexeme.Key key.Minus k ∷ lexeme.Int (pos n) l ∷ r) r (v.Int (neg_ℤ (pos n)))
 
 -- the name of an operation, which may be a reserved word
 pub data ReadsOp : Tokens → Tokens → List ℕ → Type 0 where

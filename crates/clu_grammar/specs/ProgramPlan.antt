@@ -1,5 +1,5 @@
 -- How a reader goes over programs. Contracts that are public don't name this: it finds what the grammar says, and nothing else.
-use Rattle.std.specs.Prelude.{ℕ, zero, suc, Bool, true, false, if◌then◌else◌, List, [], ◌∷◌, length, Option, Some, None, codes, bytes_eq, neg_ℤ}
+use Rattle.std.specs.Prelude.{ℕ, zero, suc, Bool, true, false, if◌then◌else◌, List, [], ◌∷◌, length, Option, Some, None, codes, bytes_eq, pos, neg_ℤ}
 use Rattle.clu_tree.specs.declared.lexeme.Key.TheVariants as key
 use Rattle.clu_tree.specs.declared.lexeme.Lexeme.TheVariants as lexeme
 use Rattle.clu_tree.specs.declared.shape.Shape.{Shape}
@@ -20,7 +20,7 @@ use Rattle.clu_grammar.specs.StmtPlan.{end_key, names, body}
 -- ---- literals
 
 abbrev pub signed_at : Parser Value
-signed_at (lexeme.Key key.Minus _ ∷ lexeme.Int x _ ∷ r) = Some (v.Int (neg_ℤ x), r)
+signed_at (lexeme.Key key.Minus _ ∷ lexeme.Int (pos x) _ ∷ r) = Some (v.Int (neg_ℤ (pos x)), r)
 signed_at ts = literal_at ts
 
 abbrev pub values_after : Parser (List Value) → Value → Parser (List Value)
