@@ -1,0 +1,14 @@
+//! Reads programs from tokens.
+#![tactic(auto)]
+
+mod cluster;
+mod literals;
+mod node_block;
+mod node_var;
+mod part;
+mod pass;
+mod program;
+mod routine;
+
+pub use clu_expr_reader::ReadFault;
+pub use program::read_tokens;
