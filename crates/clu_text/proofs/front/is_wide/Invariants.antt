@@ -1,0 +1,9 @@
+use Rattle.std.proofs.Common.{◌≡◌, ◌<◌, ◌^◌, drop}
+use Rattle.clu_text.proofs.Numbers.{int_from}
+use Rattle.clu_text.proofs.front.is_wide.Given as goal
+
+abbrev pub invariant-loop-digit : goal.invariant-loop-digit
+invariant-loop-digit l = record {
+  same : int_from l.number (drop l.digit-index l.digits) ≡ int_from 0 l.digits;
+  fits : l.number < 2 ^ 63;
+}
