@@ -167,4 +167,4 @@ node_var_nesting x = max (shape_nesting x.shape) (initial_nesting x.first)
 abbrev pub program_nesting : Program → ℕ
 program_nesting p =
     max (deepest (map (λ (x : Equate). shape_nesting x.shape) p.equates))
-        (max (deepest (map node_var_nesting p.node_vars)) (max (deepest (map routine_nesting p.routines)) (deepest (map (λ (x : Cluster). shape_nesting x.rep) p.clusters))))
+    (max (deepest (map node_var_nesting p.node_vars)) (max (deepest (map routine_nesting p.routines)) (deepest (map (λ (x : Cluster). shape_nesting x.rep) p.clusters))))
