@@ -7,7 +7,7 @@ mod exprs;
 mod fault;
 pub mod key;
 mod literals;
-mod node;
+pub mod node;
 mod operation;
 mod reader;
 #[cfg(test)]

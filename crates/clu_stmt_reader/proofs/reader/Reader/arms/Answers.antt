@@ -1,0 +1,29 @@
+use Rattle.std.proofs.Common.{◌≡◌, ℕ, suc, ◌+◌, ◌-◌, true, false, length, rules, arith}
+use Rattle.std.proofs.lemmas.Grind.{common_steps}
+use Rattle.clu_grammar.specs.StmtPlan as plan
+use Rattle.clu_stmt_reader.specs.Parts as parts
+use Rattle.clu_stmt_reader.proofs.Loops.{many_first, many_last, many_turn, many_more, many_out}
+use Rattle.clu_stmt_reader.proofs.Steps.{arms-many}
+use Rattle.clu_stmt_reader.proofs.reader.Reader.arms.Goals as goal
+
+pub loop-turn-init : goal.loop-turn-init
+loop-turn-init g c = many_first parts.at_arm (parts.arm c.args.self.now.depth) (suc (length c.args.cursor.now)) _ _ _ (search rules) (omega arith) (arms-many c.args.self.now.depth (suc (length c.args.cursor.now)) c.args.cursor.now)
+
+pub returns-then-not-at_arm : goal.returns-then-not-at_arm
+returns-then-not-at_arm g c =
+    let none : parts.at_arm c.loop-turn.cursor ≡ false = first_of (search rules, grind (arith, common_steps)) in
+    many_last parts.at_arm (parts.arm c.args.self.now.depth) _ _ c.loop-turn.found.arms c.loop-turn.cursor c.loop-turn.invariant c.loop-turn-test.true none
+
+pub returns-in_err-arm : goal.returns-in_err-arm
+returns-in_err-arm g c =
+    let some : parts.at_arm c.loop-turn.cursor ≡ true = first_of (search rules, grind (arith, common_steps)) in
+    let e = many_turn parts.at_arm (parts.arm c.args.self.now.depth) _ _ c.loop-turn.found.arms c.loop-turn.cursor c.loop-turn.invariant c.loop-turn-test.true some in
+    first_of (search rules, grind (arith, common_steps))
+
+pub loop-turn-preserved : goal.loop-turn-preserved
+loop-turn-preserved g c =
+    let some : parts.at_arm c.loop-turn.cursor ≡ true = first_of (search rules, grind (arith, common_steps)) in
+    many_more parts.at_arm (parts.arm c.args.self.now.depth) _ _ c.loop-turn.found.arms c.loop-turn.cursor c.loop-turn.invariant _ _ _ c.loop-turn-test.true some c.in_ok-arm.ensures (search rules)
+
+pub returns : goal.returns
+returns g c = many_out parts.at_arm (parts.arm c.args.self.now.depth) _ _ c.loop-turn.found.arms c.loop-turn.cursor c.loop-turn.invariant c.loop-turn-test.false

@@ -1,0 +1,29 @@
+use Rattle.std.proofs.Common.{◌≡◌, ℕ, suc, ◌+◌, ◌-◌, true, false, length, rules, arith}
+use Rattle.std.proofs.lemmas.Grind.{common_steps}
+use Rattle.clu_grammar.specs.StmtPlan as plan
+use Rattle.clu_stmt_reader.specs.Parts as parts
+use Rattle.clu_stmt_reader.proofs.Loops.{many_first, many_last, many_turn, many_more, many_out}
+use Rattle.clu_stmt_reader.proofs.Steps.{stmts-many}
+use Rattle.clu_stmt_reader.proofs.reader.Reader.stmts.Goals as goal
+
+pub loop-turn-init : goal.loop-turn-init
+loop-turn-init g c = many_first parts.goes_on (plan.stmt (parts.inner c.args.self.now.depth) c.args.self.now.depth) (suc (length c.args.cursor.now)) _ _ _ (search rules) (omega arith) (stmts-many c.args.self.now.depth (suc (length c.args.cursor.now)) c.args.cursor.now)
+
+pub returns-then-ends_body : goal.returns-then-ends_body
+returns-then-ends_body g c =
+    let none : parts.goes_on c.loop-turn.cursor ≡ false = first_of (search rules, grind (arith, common_steps)) in
+    many_last parts.goes_on (plan.stmt (parts.inner c.args.self.now.depth) c.args.self.now.depth) _ _ c.loop-turn.found.items c.loop-turn.cursor c.loop-turn.invariant c.loop-turn-test.true none
+
+pub returns-in_err-stmt : goal.returns-in_err-stmt
+returns-in_err-stmt g c =
+    let some : parts.goes_on c.loop-turn.cursor ≡ true = first_of (search rules, grind (arith, common_steps)) in
+    let e = many_turn parts.goes_on (plan.stmt (parts.inner c.args.self.now.depth) c.args.self.now.depth) _ _ c.loop-turn.found.items c.loop-turn.cursor c.loop-turn.invariant c.loop-turn-test.true some in
+    first_of (search rules, grind (arith, common_steps))
+
+pub loop-turn-preserved : goal.loop-turn-preserved
+loop-turn-preserved g c =
+    let some : parts.goes_on c.loop-turn.cursor ≡ true = first_of (search rules, grind (arith, common_steps)) in
+    many_more parts.goes_on (plan.stmt (parts.inner c.args.self.now.depth) c.args.self.now.depth) _ _ c.loop-turn.found.items c.loop-turn.cursor c.loop-turn.invariant _ _ _ c.loop-turn-test.true some c.in_ok-stmt.ensures (search rules)
+
+pub returns : goal.returns
+returns g c = many_out parts.goes_on (plan.stmt (parts.inner c.args.self.now.depth) c.args.self.now.depth) _ _ c.loop-turn.found.items c.loop-turn.cursor c.loop-turn.invariant c.loop-turn-test.false

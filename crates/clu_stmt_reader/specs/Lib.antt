@@ -1,0 +1,5 @@
+pub mod Bodies
+pub mod Kinds
+pub mod Loops
+pub mod Parts
+pub mod Places
