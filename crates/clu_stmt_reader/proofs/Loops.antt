@@ -107,12 +107,13 @@ module _ {A : Type 0} where
           ∙ ap (λ o. o >>= behind found) (comma-last (listed one (n - (at + 1))) x q none)
           ∙ ap (λ (l : List A). let y : Option (List A × Tokens) = Some (l, q) in y) (sym grown)
 
-      pub listed_more : (x : A) (q : Tokens) (all : List A) → at < n → one ts ≡ Some (x, q) → at_comma q ≡ true → all ≡ found ++ x ∷ [] → X ≡ (listed one (n - (at + 1)) (drop 1 q) >>= behind all)
-      listed_more x q all below is some grown =
+      pub listed_more : (x : A) (q r : Tokens) (all : List A) → at < n → one ts ≡ Some (x, q) → at_comma q ≡ true → r ≡ drop 1 q → all ≡ found ++ x ∷ [] → X ≡ (listed one (n - (at + 1)) r >>= behind all)
+      listed_more x q r all below is some next grown =
           listed_turn below ∙ ap (λ o. (o >>= after_comma (listed one (n - (at + 1)))) >>= behind found) is
           ∙ ap (λ o. o >>= behind found) (comma-more (listed one (n - (at + 1))) x q some)
           ∙ front_more (listed one (n - (at + 1)) (drop 1 q)) found x
           ∙ ap (λ f. listed one (n - (at + 1)) (drop 1 q) >>= behind f) (sym grown)
+          ∙ ap (λ m. listed one (n - (at + 1)) m >>= behind all) (sym next)
 
       pub listed_out : n ≤ at → X ≡ None
       listed_out done = e ∙ no_turn (λ j. listed one j ts >>= behind found) n at done ∙ ap (λ o. o >>= behind found) (listed-zero ts)

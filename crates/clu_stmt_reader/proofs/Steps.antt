@@ -166,6 +166,8 @@ returned false None ts f = refl
 
 pub simple-by : (d : ℕ) (ts : Tokens) → plan.simple (inner d) d ts ≡ by_kind d (kind_of ts) ts
 unfolding plan.simple
+simple-by d (lexeme.Name x l ∷ lexeme.Key key.Colon k ∷ m) = refl
+simple-by d (lexeme.Name x l ∷ lexeme.Key key.Becomes k ∷ m) = refl
 simple-by d (lexeme.Key key.PutLine l ∷ lexeme.Key key.LParen k ∷ m) = refl
 simple-by d (lexeme.Key key.PutLine l ∷ m) = front_none d (lexeme.Key key.PutLine l ∷ m) (none-PutLine d l m)
 simple-by d (lexeme.Key key.Sleep l ∷ lexeme.Key key.LParen k ∷ m) = refl

@@ -120,6 +120,14 @@ abbrev pub while : ℕ → Parser Stmt
 while d (lexeme.Key key.While l ∷ m) = expr d m >>= do_key >>= λ a q. inner d q >>= end_key >>= λ b. stmt_within d (st.While a b l)
 while d _ = None
 
+-- what a `for` goes over, and `do`
+abbrev pub over : ℕ → Parser Iter
+over d q = iter d q >>= do_key
+
+-- statements, and `end`
+abbrev pub ended : ℕ → Parser (List Stmt)
+ended d m = inner d m >>= end_key
+
 -- behind `in`
 abbrev pub for_over : ℕ → List ℕ → ℕ → Shape → Parser Stmt
 for_over d x l t q = iter d q >>= do_key >>= λ y w. inner d w >>= end_key >>= λ b. stmt_within d (st.For x t y b l)

@@ -14,8 +14,8 @@ use crate::node;
 use crate::pass::pass;
 use crate::simple;
 use crate::sized::{
-    SizedArm, SizedArms, SizedHandlers, SizedOthers, SizedStmt, SizedStmts, SizedTag, SizedTags,
-    SizedWhen, SizedWhens,
+    SizedArm, SizedArms, SizedHandlers, SizedIter, SizedOthers, SizedStmt, SizedStmts, SizedTag,
+    SizedTags, SizedWhen, SizedWhens,
 };
 use clu_expr_reader::{Cursor, ReadFault, SizedShape, expr, shape};
 use clu_tree::{Arm, Handlers, Key, Lexeme, Meant, TagArm, Text, When};
@@ -131,8 +131,7 @@ impl<F: Fn(Global, &mut Cursor<'_>, u32) -> Result<SizedStmts, ReadFault>> Reade
     {
         if let Some(Lexeme::Key(Key::Else, _)) = cursor.peek() {
             cursor.skip();
-            let body = self.body(cursor)?;
-            pass!(cursor, End);
+            let body = self.ended(cursor)?;
             return Ok(SizedOthers::of(body));
         }
         pass!(cursor, End);
@@ -182,8 +181,7 @@ impl<F: Fn(Global, &mut Cursor<'_>, u32) -> Result<SizedStmts, ReadFault>> Reade
     {
         if at_others(cursor) {
             cursor.skip_two();
-            let body = self.body(cursor)?;
-            pass!(cursor, End);
+            let body = self.ended(cursor)?;
             return Ok(SizedOthers::of(body));
         }
         pass!(cursor, End);
@@ -277,8 +275,7 @@ impl<F: Fn(Global, &mut Cursor<'_>, u32) -> Result<SizedStmts, ReadFault>> Reade
         let line = pass!(cursor, While);
         let test = expr(self.alloc, cursor, self.depth, 5)?;
         pass!(cursor, Do);
-        let body = self.body(cursor)?;
-        pass!(cursor, End);
+        let body = self.ended(cursor)?;
         node::repeat(cursor, self.depth, test, body, line)
     }
 
@@ -294,6 +291,26 @@ impl<F: Fn(Global, &mut Cursor<'_>, u32) -> Result<SizedStmts, ReadFault>> Reade
         self.each_over(cursor, name, of, line)
     }
 
+    /// What a `for` goes over, and `do`.
+    fn over(&self, cursor: &mut Cursor<'_>) -> Result<SizedIter, ReadFault>
+        requires { self.now.depth ≤ 200 }
+        ensures { Gives (λ x. x.iter) result cursor.new (parts.over self.now.depth cursor.old) }
+    {
+        let over = iter(self.alloc, cursor, self.depth)?;
+        pass!(cursor, Do);
+        Ok(over)
+    }
+
+    /// The statements inside another one, and `end`.
+    fn ended(&self, cursor: &mut Cursor<'_>) -> Result<SizedStmts, ReadFault>
+        requires { ReadsBodies self.now.depth (F.pre self.now.inner) (F.post self.now.inner) }
+        ensures { Gives (λ x. x.items) result cursor.new (parts.ended self.now.depth cursor.old) }
+    {
+        let body = self.body(cursor)?;
+        pass!(cursor, End);
+        Ok(body)
+    }
+
     /// The rest of a `for`, behind `in`.
     fn each_over(
         &self,
@@ -305,10 +322,8 @@ impl<F: Fn(Global, &mut Cursor<'_>, u32) -> Result<SizedStmts, ReadFault>> Reade
         requires { ReadsBodies self.now.depth (F.pre self.now.inner) (F.post self.now.inner) }
         ensures { Gives (λ x. x.stmt) result cursor.new (parts.for_over self.now.depth name line of.shape cursor.old) }
     {
-        let over = iter(self.alloc, cursor, self.depth)?;
-        pass!(cursor, Do);
-        let body = self.body(cursor)?;
-        pass!(cursor, End);
+        let over = self.over(cursor)?;
+        let body = self.ended(cursor)?;
         node::each(cursor, self.depth, name, of, over, body, line)
     }
 
@@ -328,8 +343,7 @@ impl<F: Fn(Global, &mut Cursor<'_>, u32) -> Result<SizedStmts, ReadFault>> Reade
         ensures { Gives (λ x. x.stmt) result cursor.new (parts.begin self.now.depth cursor.old) }
     {
         let line = pass!(cursor, Begin);
-        let body = self.body(cursor)?;
-        pass!(cursor, End);
+        let body = self.ended(cursor)?;
         node::begin(cursor, self.depth, body, line)
     }
 
@@ -340,8 +354,7 @@ impl<F: Fn(Global, &mut Cursor<'_>, u32) -> Result<SizedStmts, ReadFault>> Reade
         let line = pass!(cursor, Region);
         let lock = expr(self.alloc, cursor, self.depth, 5)?;
         pass!(cursor, Do);
-        let body = self.body(cursor)?;
-        pass!(cursor, End);
+        let body = self.ended(cursor)?;
         node::region(cursor, self.depth, lock, body, line)
     }
 

@@ -22,7 +22,7 @@ returns-in_err-name c =
 pub loop-turn-preserved : goal.loop-turn-preserved
 loop-turn-preserved c =
     let some : at_comma c.name.new.cursor ≡ true = first_of (search rules, grind (arith, common_steps)) in
-    listed_more parts.name _ _ c.loop-turn.found c.loop-turn.cursor c.loop-turn.invariant _ _ _ c.loop-turn-test.true c.in_ok-name.ensures some (search rules)
+    listed_more parts.name _ _ c.loop-turn.found c.loop-turn.cursor c.loop-turn.invariant _ _ _ _ c.loop-turn-test.true c.in_ok-name.ensures some c.skip.ensures (search rules)
 
 pub returns : goal.returns
 returns c = listed_out parts.name _ _ c.loop-turn.found c.loop-turn.cursor c.loop-turn.invariant c.loop-turn-test.false

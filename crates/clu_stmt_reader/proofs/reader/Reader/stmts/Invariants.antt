@@ -7,4 +7,4 @@ use Rattle.clu_stmt_reader.specs.Parts.{goes_on}
 use Rattle.clu_stmt_reader.proofs.reader.Reader.stmts.Given as goal
 
 abbrev pub invariant-loop-turn : goal.invariant-loop-turn
-invariant-loop-turn g l = plan.stmts (parts.inner l.self.depth) l.self.depth (suc (length l.fn.cursor)) l.fn.cursor ≡ (many goes_on (plan.stmt (parts.inner l.self.depth) l.self.depth) (l._turn-end - l._turn) l.cursor >>= behind l.found.items)
+invariant-loop-turn g l = plan.stmts (parts.inner l.self.depth) l.self.depth (suc (length l.fn.cursor)) l.fn.cursor ≡ (many goes_on (plan.stmt (parts.inner l.self.depth) l.self.depth) (suc l._turn-end - l._turn) l.cursor >>= behind l.found.items)

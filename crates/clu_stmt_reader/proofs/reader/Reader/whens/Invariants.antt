@@ -6,4 +6,4 @@ use Rattle.clu_stmt_reader.specs.Parts as parts
 use Rattle.clu_stmt_reader.proofs.reader.Reader.whens.Given as goal
 
 abbrev pub invariant-loop-turn : goal.invariant-loop-turn
-invariant-loop-turn g l = plan.whens (parts.inner l.self.depth) l.self.depth (suc (length l.fn.cursor)) l.fn.cursor ≡ (many parts.at_when (parts.when l.self.depth) (l._turn-end - l._turn) l.cursor >>= behind l.found.whens)
+invariant-loop-turn g l = plan.whens (parts.inner l.self.depth) l.self.depth (suc (length l.fn.cursor)) l.fn.cursor ≡ (many parts.at_when (parts.when l.self.depth) (suc l._turn-end - l._turn) l.cursor >>= behind l.found.whens)
