@@ -1,4 +1,5 @@
 pub mod Bodies
+pub mod Iters
 pub mod Kinds
 pub mod Loops
 pub mod Parts

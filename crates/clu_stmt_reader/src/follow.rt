@@ -1,9 +1,10 @@
 //! What several statements have in common.
 
-ghost use Rattle.std.specs.Prelude.{◌≡◌, ◌≤◌, length};
-ghost use Rattle.clu_grammar.specs.Grammar.{field_of};
+ghost use Rattle.std.specs.Prelude.{◌≡◌, ◌≤◌, length, drop};
+ghost use Rattle.clu_grammar.specs.Grammar.{field_of, line_of};
 ghost use Rattle.clu_grammar.specs.StmtPlan as plan;
 ghost use Rattle.clu_expr_reader.specs.Gives.{Gives};
+ghost use Rattle.clu_stmt_reader.specs.Iters.{elements_of};
 ghost use Rattle.clu_stmt_reader.specs.Loops as loops;
 ghost use Rattle.clu_stmt_reader.specs.Parts as parts;
 
@@ -186,6 +187,25 @@ fn at_range(cursor: &Cursor<'_>) -> bool
     at_operation(&ahead, b"from_to")
 }
 
+/// Reads the array whose elements a `for` goes over, behind its type and `$elements(`.
+fn elements_of(
+    alloc: Global,
+    cursor: &mut Cursor<'_>,
+    depth: u32,
+    line: u32,
+    of: SizedShape,
+) -> Result<SizedIter, ReadFault>
+    requires { depth ≤ 200 }
+    ensures { Gives (λ x. x.iter) result cursor.new (elements_of depth line of.shape cursor.old) }
+{
+    let over = expr(alloc, cursor, depth, 5)?;
+    pass!(cursor, RParen);
+    Ok(SizedIter {
+        height: of.height.max(over.height),
+        iter: Iter::Elements(of.shape, over.expr, line),
+    })
+}
+
 /// Reads the elements of an array, as a `for` goes over them.
 #[tactic(auto, using(crate::proofs::Steps::elements))]
 fn elements(alloc: Global, cursor: &mut Cursor<'_>, depth: u32) -> Result<SizedIter, ReadFault>
@@ -199,25 +219,27 @@ fn elements(alloc: Global, cursor: &mut Cursor<'_>, depth: u32) -> Result<SizedI
         return Err(ReadFault::Syntax(cursor.line()));
     }
     cursor.skip_two();
-    let over = expr(alloc, cursor, depth, 5)?;
-    pass!(cursor, RParen);
-    Ok(SizedIter {
-        height: of.height.max(over.height),
-        iter: Iter::Elements(of.shape, over.expr, line),
-    })
+    elements_of(alloc, cursor, depth, line, of)
+}
+
+/// Reads what stands at `int$from_to(`.
+fn ranged(alloc: Global, cursor: &mut Cursor<'_>, depth: u32) -> Result<SizedIter, ReadFault>
+    requires { depth ≤ 200 }
+    ensures { Gives (λ x. x.iter) result cursor.new (parts.range depth (line_of cursor.old) (drop 2 (drop 2 cursor.old))) }
+{
+    let line = cursor.first_line();
+    cursor.skip_two();
+    cursor.skip_two();
+    range(alloc, cursor, depth, line)
 }
 
 /// Reads what a `for` goes over.
-#[tactic(auto, using(crate::proofs::Steps::iters))]
 pub fn iter(alloc: Global, cursor: &mut Cursor<'_>, depth: u32) -> Result<SizedIter, ReadFault>
     requires { depth ≤ 200 }
     ensures { Gives (λ x. x.iter) result cursor.new (parts.iter depth cursor.old) }
 {
     if at_range(cursor) {
-        let line = cursor.first_line();
-        cursor.skip_two();
-        cursor.skip_two();
-        return range(alloc, cursor, depth, line);
+        return ranged(alloc, cursor, depth);
     }
     elements(alloc, cursor, depth)
 }
