@@ -248,7 +248,6 @@ whens-many d (suc n) (lexeme.Key key.When l ∷ m) =
     turn_of_three (plan.names (length m) m) (λ xs q. parts.variable d q >>= plan.colon) (λ xs o. inner d) (λ xs o b. roll-When (record { names = xs; variable = o; body = b })) (plan.whens (inner d) d n) (many at_when (parts.when d) n) (whens-many d n)
 whens-many d (suc n) _ = refl
 
-
 turned_if : {A : Type 0} (b : Bool) (x y z : A) → y ≡ z → (if b then x else y) ≡ (if not b then z else x)
 turned_if true x y z e = refl
 turned_if false x y z e = e

@@ -125,11 +125,7 @@ fn enclosed(alloc: Global, cursor: &mut Cursor<'_>, depth: u32) -> Result<SizedV
 
 /// Reads a value in brackets, if one is written.
 #[tactic(auto, using(crate::proofs::Steps::carried))]
-pub fn carried(
-    alloc: Global,
-    cursor: &mut Cursor<'_>,
-    depth: u32,
-) -> Result<SizedValue, ReadFault>
+pub fn carried(alloc: Global, cursor: &mut Cursor<'_>, depth: u32) -> Result<SizedValue, ReadFault>
     requires { depth ≤ 200 }
     ensures { Gives (λ x. x.value) result cursor.new (parts.carried depth cursor.old) }
 {

@@ -7,20 +7,15 @@ ghost use Rattle.clu_grammar.specs.StmtPlan.{stmt_within};
 ghost use Rattle.clu_expr_reader.specs.Gives.{Gives};
 
 use crate::sized::{
-    SizedArms, SizedHandlers, SizedIter, SizedOthers, SizedRemote, SizedStmt, SizedStmts, SizedTags,
-    SizedTarget, SizedValue,
+    SizedArms, SizedHandlers, SizedIter, SizedOthers, SizedRemote, SizedStmt, SizedStmts,
+    SizedTags, SizedTarget, SizedValue,
 };
 use clu_expr_reader::{Cursor, ReadFault, SizedExpr, SizedExprs, SizedShape};
 use clu_tree::{Meant, Stmt, Text};
 use sqlite_items::{Boxed, Items};
 use std::alloc::Global;
 
-fn fit(
-    cursor: &Cursor<'_>,
-    depth: u32,
-    stmt: Stmt,
-    height: u32,
-) -> Result<SizedStmt, ReadFault>
+fn fit(cursor: &Cursor<'_>, depth: u32, stmt: Stmt, height: u32) -> Result<SizedStmt, ReadFault>
     requires nests { height ≡ stmt_nesting stmt }
     requires small { depth ≤ 200 }
     ensures { Gives (λ x. x.stmt) result cursor.now (stmt_within depth stmt cursor.now) }

@@ -10,13 +10,12 @@ ghost use Rattle.clu_stmt_reader.specs.Parts as parts;
 use crate::follow::{iter, names, variable};
 use crate::front::from_front;
 use crate::kind::{Kind, next_kind};
-use crate::node;
 use crate::pass::pass;
-use crate::simple;
 use crate::sized::{
     SizedArm, SizedArms, SizedHandlers, SizedIter, SizedOthers, SizedStmt, SizedStmts, SizedTag,
     SizedTags, SizedWhen, SizedWhens,
 };
+use crate::{node, simple};
 use clu_expr_reader::{Cursor, ReadFault, SizedShape, expr, shape};
 use clu_tree::{Arm, Handlers, Key, Lexeme, Meant, TagArm, Text, When};
 use std::alloc::Global;

@@ -110,11 +110,7 @@ pub fn remote_call(
     node::remote(cursor, depth, None, call, line)
 }
 
-pub fn put_line(
-    alloc: Global,
-    cursor: &mut Cursor<'_>,
-    depth: u32,
-) -> Result<SizedStmt, ReadFault>
+pub fn put_line(alloc: Global, cursor: &mut Cursor<'_>, depth: u32) -> Result<SizedStmt, ReadFault>
     requires { depth ≤ 200 }
     ensures { Gives (λ x. x.stmt) result cursor.new (parts.put_line depth cursor.old) }
 {

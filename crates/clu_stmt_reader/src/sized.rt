@@ -6,9 +6,7 @@ ghost use Rattle.clu_grammar.specs.Nesting.{deepest, value_nesting, variable_nes
 ghost use Rattle.clu_stmt_reader.specs.Parts.{others_nesting};
 
 use clu_expr_reader::SizedExpr;
-use clu_tree::{
-    Arm, Expr, Handlers, Iter, Named, Remote, Stmt, TagArm, Target, When,
-};
+use clu_tree::{Arm, Expr, Handlers, Iter, Named, Remote, Stmt, TagArm, Target, When};
 use sqlite_items::Items;
 use std::alloc::{AllocError, Global};
 

@@ -28,10 +28,11 @@ loop-turn-preserved g c =
 
 pub returns : goal.returns
 returns g c = elim c.loop-turn-test.branch [
-    else-loop-turn-test w ↦ many_out parts.goes_on (plan.stmt (parts.inner c.args.self.now.depth) c.args.self.now.depth) (suc c.left-turn-end.result) c.loop-turn._turn c.loop-turn.found.items c.loop-turn.cursor c.loop-turn.invariant (omega arith)
+  | else-loop-turn-test w ↦ many_out parts.goes_on (plan.stmt (parts.inner c.args.self.now.depth) c.args.self.now.depth) (suc c.left-turn-end.result) c.loop-turn._turn c.loop-turn.found.items c.loop-turn.cursor c.loop-turn.invariant (omega arith)
   | then-loop-turn-test+else-ends_body+in_ok-stmt+in_ok-push+else-turn-turn-end w ↦
       let x = w.in_ok-stmt.stmt.stmt in
       let all = c.loop-turn.found.items ++ x ∷ [] in
       many_out parts.goes_on (plan.stmt (parts.inner c.args.self.now.depth) c.args.self.now.depth) (suc c.left-turn-end.result) (c.loop-turn._turn + 1) all _
-        (many_more parts.goes_on (plan.stmt (parts.inner c.args.self.now.depth) c.args.self.now.depth) (suc c.left-turn-end.result) c.loop-turn._turn c.loop-turn.found.items c.loop-turn.cursor c.loop-turn.invariant x _ all (omega arith) (ap not (sym w.ends_body.ensures ∙ w.if-ends_body.false)) w.in_ok-stmt.ensures refl)
-        (omega arith) ]
+      (many_more parts.goes_on (plan.stmt (parts.inner c.args.self.now.depth) c.args.self.now.depth) (suc c.left-turn-end.result) c.loop-turn._turn c.loop-turn.found.items c.loop-turn.cursor c.loop-turn.invariant x _ all (omega arith) (ap not (sym w.ends_body.ensures ∙ w.if-ends_body.false)) w.in_ok-stmt.ensures refl)
+      (omega arith)
+]

@@ -28,10 +28,11 @@ loop-turn-preserved g c =
 
 pub returns : goal.returns
 returns g c = elim c.loop-turn-test.branch [
-    else-loop-turn-test w ↦ many_out parts.at_tag (parts.tag c.args.self.now.depth) (suc c.left-turn-end.result) c.loop-turn._turn c.loop-turn.found.tags c.loop-turn.cursor c.loop-turn.invariant (omega arith)
+  | else-loop-turn-test w ↦ many_out parts.at_tag (parts.tag c.args.self.now.depth) (suc c.left-turn-end.result) c.loop-turn._turn c.loop-turn.found.tags c.loop-turn.cursor c.loop-turn.invariant (omega arith)
   | then-loop-turn-test+else-not-at_tag+in_ok-tag+in_ok-push+else-turn-turn-end w ↦
       let x = w.in_ok-tag.tag.tag in
       let all = c.loop-turn.found.tags ++ x ∷ [] in
       many_out parts.at_tag (parts.tag c.args.self.now.depth) (suc c.left-turn-end.result) (c.loop-turn._turn + 1) all _
-        (many_more parts.at_tag (parts.tag c.args.self.now.depth) (suc c.left-turn-end.result) c.loop-turn._turn c.loop-turn.found.tags c.loop-turn.cursor c.loop-turn.invariant x _ all (omega arith) (sym w.at_tag.ensures ∙ w.if-not-at_tag.false) w.in_ok-tag.ensures refl)
-        (omega arith) ]
+      (many_more parts.at_tag (parts.tag c.args.self.now.depth) (suc c.left-turn-end.result) c.loop-turn._turn c.loop-turn.found.tags c.loop-turn.cursor c.loop-turn.invariant x _ all (omega arith) (sym w.at_tag.ensures ∙ w.if-not-at_tag.false) w.in_ok-tag.ensures refl)
+      (omega arith)
+]

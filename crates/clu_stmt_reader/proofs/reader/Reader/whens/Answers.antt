@@ -28,10 +28,11 @@ loop-turn-preserved g c =
 
 pub returns : goal.returns
 returns g c = elim c.loop-turn-test.branch [
-    else-loop-turn-test w ↦ many_out parts.at_when (parts.when c.args.self.now.depth) (suc c.left-turn-end.result) c.loop-turn._turn c.loop-turn.found.whens c.loop-turn.cursor c.loop-turn.invariant (omega arith)
+  | else-loop-turn-test w ↦ many_out parts.at_when (parts.when c.args.self.now.depth) (suc c.left-turn-end.result) c.loop-turn._turn c.loop-turn.found.whens c.loop-turn.cursor c.loop-turn.invariant (omega arith)
   | then-loop-turn-test+else-not-at_when+in_ok-when+in_ok-push+else-turn-turn-end w ↦
       let x = w.in_ok-when.when.when in
       let all = c.loop-turn.found.whens ++ x ∷ [] in
       many_out parts.at_when (parts.when c.args.self.now.depth) (suc c.left-turn-end.result) (c.loop-turn._turn + 1) all _
-        (many_more parts.at_when (parts.when c.args.self.now.depth) (suc c.left-turn-end.result) c.loop-turn._turn c.loop-turn.found.whens c.loop-turn.cursor c.loop-turn.invariant x _ all (omega arith) (sym w.at_when.ensures ∙ w.if-not-at_when.false) w.in_ok-when.ensures refl)
-        (omega arith) ]
+      (many_more parts.at_when (parts.when c.args.self.now.depth) (suc c.left-turn-end.result) c.loop-turn._turn c.loop-turn.found.whens c.loop-turn.cursor c.loop-turn.invariant x _ all (omega arith) (sym w.at_when.ensures ∙ w.if-not-at_when.false) w.in_ok-when.ensures refl)
+      (omega arith)
+]
