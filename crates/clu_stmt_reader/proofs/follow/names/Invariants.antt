@@ -1,0 +1,9 @@
+use Rattle.std.proofs.Common.{◌≡◌, ◌-◌, length}
+use Rattle.clu_grammar.specs.ExprPlan.{◌>>=◌}
+use Rattle.clu_grammar.specs.StmtPlan as plan
+use Rattle.clu_stmt_reader.specs.Loops.{listed, behind}
+use Rattle.clu_stmt_reader.specs.Parts as parts
+use Rattle.clu_stmt_reader.proofs.follow.names.Given as goal
+
+abbrev pub invariant-loop-turn : goal.invariant-loop-turn
+invariant-loop-turn l = plan.names (length l.fn.cursor) l.fn.cursor ≡ (listed parts.name (l._turn-end - l._turn) l.cursor >>= behind l.found)

@@ -1,0 +1,6 @@
+pub mod Bodies
+pub mod Iters
+pub mod Kinds
+pub mod Loops
+pub mod Parts
+pub mod Places

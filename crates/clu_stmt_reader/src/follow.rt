@@ -1,0 +1,241 @@
+//! What several statements have in common.
+
+ghost use Rattle.std.specs.Prelude.{◌≡◌, ◌≤◌, length, drop};
+ghost use Rattle.clu_grammar.specs.Grammar.{field_of, line_of};
+ghost use Rattle.clu_grammar.specs.StmtPlan as plan;
+ghost use Rattle.clu_expr_reader.specs.Gives.{Gives};
+ghost use Rattle.clu_stmt_reader.specs.Iters.{elements_of};
+ghost use Rattle.clu_stmt_reader.specs.Loops as loops;
+ghost use Rattle.clu_stmt_reader.specs.Parts as parts;
+
+use crate::pass::pass;
+use crate::sized::{SizedIter, SizedValue, SizedVariable};
+use clu_expr_reader::{Cursor, ReadFault, SizedShape, expr, shape};
+use clu_tree::{Iter, Key, Lexeme, Named, Text};
+use sqlite_items::Items;
+use std::alloc::Global;
+
+/// Whether a comma comes next.
+pub fn at_comma(cursor: &Cursor<'_>) -> bool
+    ensures { result ≡ loops.at_comma cursor.now }
+{
+    matches!(cursor.peek(), Some(Lexeme::Key(Key::Comma, _)))
+}
+
+fn name(alloc: Global, cursor: &mut Cursor<'_>) -> Result<Text, ReadFault>
+    ensures { Gives (λ x. x) result cursor.new (parts.name cursor.old) }
+{
+    let (name, _) = cursor.name(alloc)?;
+    Ok(name)
+}
+
+/// Reads one or more names with commas between them.
+pub fn names(alloc: Global, cursor: &mut Cursor<'_>) -> Result<Items<Text>, ReadFault>
+    ensures { Gives (λ x. x) result cursor.new (plan.names (length cursor.old) cursor.old) }
+{
+    let mut found = Items::new(alloc);
+    for _turn in 0..cursor.left() {
+        found.push(name(alloc, cursor)?)?;
+        if !at_comma(cursor) {
+            return Ok(found);
+        }
+        cursor.skip();
+    }
+    Err(ReadFault::Syntax(cursor.line()))
+}
+
+fn named(name: Text, of: SizedShape) -> SizedVariable
+    ensures { result.variable ≡ Some (field_of name of.shape) }
+{
+    SizedVariable {
+        height: of.height,
+        variable: Some(Named {
+            name,
+            shape: of.shape,
+        }),
+    }
+}
+
+/// Whether an opening bracket, a name and a colon come next.
+fn at_variable(cursor: &Cursor<'_>) -> bool
+    ensures { result ≡ parts.at_variable cursor.now }
+{
+    let Some(Lexeme::Key(Key::LParen, _)) = cursor.peek() else {
+        return false;
+    };
+    let mut ahead = cursor.copy();
+    ahead.skip();
+    let Some(Lexeme::Name(_, _)) = ahead.peek() else {
+        return false;
+    };
+    matches!(ahead.second(), Some(Lexeme::Key(Key::Colon, _)))
+}
+
+/// Reads a variable in brackets.
+fn bound(alloc: Global, cursor: &mut Cursor<'_>, depth: u32) -> Result<SizedVariable, ReadFault>
+    requires { depth ≤ 200 }
+    ensures { Gives (λ x. x.variable) result cursor.new (parts.bound depth cursor.old) }
+{
+    pass!(cursor, LParen);
+    let (name, _) = cursor.name(alloc)?;
+    pass!(cursor, Colon);
+    let of = shape(alloc, cursor, depth)?;
+    pass!(cursor, RParen);
+    Ok(named(name, of))
+}
+
+/// Reads a variable in brackets, if one is written.
+#[tactic(auto, using(crate::proofs::Steps::variables))]
+pub fn variable(
+    alloc: Global,
+    cursor: &mut Cursor<'_>,
+    depth: u32,
+) -> Result<SizedVariable, ReadFault>
+    requires { depth ≤ 200 }
+    ensures { Gives (λ x. x.variable) result cursor.new (parts.variable depth cursor.old) }
+{
+    if at_variable(cursor) {
+        return bound(alloc, cursor, depth);
+    }
+    Ok(SizedVariable::none())
+}
+
+/// Whether a bracket comes next that isn't the target of the following assignment.
+fn carries(cursor: &Cursor<'_>) -> bool
+    ensures { result ≡ parts.carries cursor.now }
+{
+    let Some(Lexeme::Key(Key::LParen, _)) = cursor.peek() else {
+        return false;
+    };
+    let mut ahead = cursor.copy();
+    ahead.skip();
+    !ahead.is_target()
+}
+
+/// Reads a value in brackets.
+fn enclosed(alloc: Global, cursor: &mut Cursor<'_>, depth: u32) -> Result<SizedValue, ReadFault>
+    requires { depth ≤ 200 }
+    ensures { Gives (λ x. x.value) result cursor.new (parts.enclosed depth cursor.old) }
+{
+    pass!(cursor, LParen);
+    let value = expr(alloc, cursor, depth, 5)?;
+    pass!(cursor, RParen);
+    Ok(SizedValue::of(value))
+}
+
+/// Reads a value in brackets, if one is written.
+#[tactic(auto, using(crate::proofs::Steps::carried))]
+pub fn carried(alloc: Global, cursor: &mut Cursor<'_>, depth: u32) -> Result<SizedValue, ReadFault>
+    requires { depth ≤ 200 }
+    ensures { Gives (λ x. x.value) result cursor.new (parts.carried depth cursor.old) }
+{
+    if carries(cursor) {
+        return enclosed(alloc, cursor, depth);
+    }
+    Ok(SizedValue::none())
+}
+
+/// Reads the numbers from one to another, behind `int$from_to(`.
+fn range(
+    alloc: Global,
+    cursor: &mut Cursor<'_>,
+    depth: u32,
+    line: u32,
+) -> Result<SizedIter, ReadFault>
+    requires { depth ≤ 200 }
+    ensures { Gives (λ x. x.iter) result cursor.new (parts.range depth line cursor.old) }
+{
+    let from = expr(alloc, cursor, depth, 5)?;
+    pass!(cursor, Comma);
+    let to = expr(alloc, cursor, depth, 5)?;
+    pass!(cursor, RParen);
+    Ok(SizedIter {
+        height: from.height.max(to.height),
+        iter: Iter::FromTo(from.expr, to.expr, line),
+    })
+}
+
+/// Whether this very name and an opening bracket come next.
+fn at_operation(cursor: &Cursor<'_>, text: &[u8]) -> bool
+    ensures { result ≡ parts.at_operation text.now cursor.now }
+{
+    let Some(Lexeme::Name(name, _)) = cursor.peek() else {
+        return false;
+    };
+    let Some(Lexeme::Key(Key::LParen, _)) = cursor.second() else {
+        return false;
+    };
+    name.as_slice() == text
+}
+
+/// Whether `int$from_to(` comes next.
+fn at_range(cursor: &Cursor<'_>) -> bool
+    ensures { result ≡ parts.at_range cursor.now }
+{
+    let Some(Lexeme::Key(Key::Int, _)) = cursor.peek() else {
+        return false;
+    };
+    let Some(Lexeme::Key(Key::Dollar, _)) = cursor.second() else {
+        return false;
+    };
+    let mut ahead = cursor.copy();
+    ahead.skip_two();
+    at_operation(&ahead, b"from_to")
+}
+
+/// Reads the array whose elements a `for` goes over, behind its type and `$elements(`.
+fn elements_of(
+    alloc: Global,
+    cursor: &mut Cursor<'_>,
+    depth: u32,
+    line: u32,
+    of: SizedShape,
+) -> Result<SizedIter, ReadFault>
+    requires { depth ≤ 200 }
+    ensures { Gives (λ x. x.iter) result cursor.new (elements_of depth line of.shape cursor.old) }
+{
+    let over = expr(alloc, cursor, depth, 5)?;
+    pass!(cursor, RParen);
+    Ok(SizedIter {
+        height: of.height.max(over.height),
+        iter: Iter::Elements(of.shape, over.expr, line),
+    })
+}
+
+/// Reads the elements of an array, as a `for` goes over them.
+#[tactic(auto, using(crate::proofs::Steps::elements))]
+fn elements(alloc: Global, cursor: &mut Cursor<'_>, depth: u32) -> Result<SizedIter, ReadFault>
+    requires { depth ≤ 200 }
+    ensures { Gives (λ x. x.iter) result cursor.new (parts.elements depth cursor.old) }
+{
+    let line = cursor.first_line();
+    let of = shape(alloc, cursor, depth)?;
+    pass!(cursor, Dollar);
+    if !at_operation(cursor, b"elements") {
+        return Err(ReadFault::Syntax(cursor.line()));
+    }
+    cursor.skip_two();
+    elements_of(alloc, cursor, depth, line, of)
+}
+
+/// Reads what stands at `int$from_to(`.
+fn ranged(alloc: Global, cursor: &mut Cursor<'_>, depth: u32) -> Result<SizedIter, ReadFault>
+    requires { depth ≤ 200 }
+    ensures { Gives (λ x. x.iter) result cursor.new (parts.range depth (line_of cursor.old) (drop 2 (drop 2 cursor.old))) }
+{
+    let line = cursor.first_line();
+    cursor.skip_two();
+    cursor.skip_two();
+    range(alloc, cursor, depth, line)
+}
+
+/// Reads what a `for` goes over.
+pub fn iter(alloc: Global, cursor: &mut Cursor<'_>, depth: u32) -> Result<SizedIter, ReadFault>
+    requires { depth ≤ 200 }
+    ensures { Gives (λ x. x.iter) result cursor.new (parts.iter depth cursor.old) }
+{
+    if at_range(cursor) {
+        return ranged(alloc, cursor, depth);
+    }
+    elements(alloc, cursor, depth)
+}

@@ -1,0 +1,20 @@
+//! Reads statements from tokens.
+#![tactic(auto)]
+
+mod bodies;
+mod follow;
+mod front;
+mod kind;
+mod node;
+mod pass;
+mod place;
+mod reader;
+mod remote;
+mod simple;
+mod sized;
+#[cfg(test)]
+mod tests;
+
+pub use bodies::body;
+pub use follow::names;
+pub use sized::{SizedStmt, SizedStmts};

@@ -1,0 +1,443 @@
+//! Statements that hold others, over a function that reads bodies.
+
+ghost use Rattle.std.specs.Prelude.{◌≡◌, ◌≤◌, ◌+◌, ◌-◌, suc, length};
+ghost use Rattle.clu_grammar.specs.StmtPlan as plan;
+ghost use Rattle.clu_expr_reader.specs.Gives.{Gives};
+ghost use Rattle.clu_stmt_reader.specs.Bodies.{ReadsBodies};
+ghost use Rattle.clu_stmt_reader.specs.Kinds as kinds;
+ghost use Rattle.clu_stmt_reader.specs.Parts as parts;
+
+use crate::follow::{iter, names, variable};
+use crate::front::from_front;
+use crate::kind::{Kind, next_kind};
+use crate::pass::pass;
+use crate::sized::{
+    SizedArm, SizedArms, SizedHandlers, SizedIter, SizedOthers, SizedStmt, SizedStmts, SizedTag,
+    SizedTags, SizedWhen, SizedWhens,
+};
+use crate::{node, simple};
+use clu_expr_reader::{Cursor, ReadFault, SizedShape, expr, shape};
+use clu_tree::{Arm, Handlers, Key, Lexeme, Meant, TagArm, Text, When};
+use std::alloc::Global;
+
+/// Reads statements of at most `depth` levels. `inner` reads bodies of one level less.
+#[derive(Clone, Copy)]
+pub struct Reader<F> {
+    pub alloc: Global,
+    pub depth: u32,
+    pub inner: F,
+}
+
+/// Whether an `elseif` comes next.
+fn at_arm(cursor: &Cursor<'_>) -> bool
+    ensures { result ≡ parts.at_arm cursor.now }
+{
+    matches!(cursor.peek(), Some(Lexeme::Key(Key::Elseif, _)))
+}
+
+/// Whether a `tag` comes next.
+fn at_tag(cursor: &Cursor<'_>) -> bool
+    ensures { result ≡ parts.at_tag cursor.now }
+{
+    matches!(cursor.peek(), Some(Lexeme::Key(Key::Tag, _)))
+}
+
+/// Whether a `when` comes next.
+fn at_when(cursor: &Cursor<'_>) -> bool
+    ensures { result ≡ parts.at_when cursor.now }
+{
+    matches!(cursor.peek(), Some(Lexeme::Key(Key::When, _)))
+}
+
+/// Whether an `except` or a `resignal` comes next.
+fn at_suffix(cursor: &Cursor<'_>) -> bool
+    ensures { result ≡ parts.at_suffix cursor.now }
+{
+    matches!(
+        cursor.peek(),
+        Some(Lexeme::Key(Key::Except | Key::Resignal, _))
+    )
+}
+
+/// Whether `others:` comes next.
+fn at_others(cursor: &Cursor<'_>) -> bool
+    ensures { result ≡ parts.at_others cursor.now }
+{
+    let Some(Lexeme::Key(Key::Others, _)) = cursor.peek() else {
+        return false;
+    };
+    matches!(cursor.second(), Some(Lexeme::Key(Key::Colon, _)))
+}
+
+/// Whether a body ends here.
+pub fn ends_body(cursor: &Cursor<'_>) -> bool
+    ensures { result ≡ plan.ends_body cursor.now }
+{
+    matches!(
+        cursor.peek(),
+        Some(Lexeme::Key(
+            Key::End | Key::Elseif | Key::Else | Key::Tag | Key::When | Key::Others,
+            _
+        ))
+    )
+}
+
+impl<F: Fn(Global, &mut Cursor<'_>, u32) -> Result<SizedStmts, ReadFault>> Reader<F> {
+    /// The statements inside another one.
+    fn body(&self, cursor: &mut Cursor<'_>) -> Result<SizedStmts, ReadFault>
+        requires { ReadsBodies self.now.depth (F.pre self.now.inner) (F.post self.now.inner) }
+        ensures { Gives (λ x. x.items) result cursor.new (parts.inner self.now.depth cursor.old) }
+    {
+        (self.inner)(self.alloc, cursor, self.depth - 1)
+    }
+
+    fn arm(&self, cursor: &mut Cursor<'_>) -> Result<SizedArm, ReadFault>
+        requires { ReadsBodies self.now.depth (F.pre self.now.inner) (F.post self.now.inner) }
+        ensures { Gives (λ x. x.arm) result cursor.new (parts.arm self.now.depth cursor.old) }
+    {
+        pass!(cursor, Elseif);
+        let test = expr(self.alloc, cursor, self.depth, 5)?;
+        pass!(cursor, Then);
+        let body = self.body(cursor)?;
+        Ok(SizedArm {
+            height: test.height.max(body.height),
+            arm: Arm {
+                test: test.expr,
+                body: body.items,
+            },
+        })
+    }
+
+    fn arms(&self, cursor: &mut Cursor<'_>) -> Result<SizedArms, ReadFault>
+        requires { ReadsBodies self.now.depth (F.pre self.now.inner) (F.post self.now.inner) }
+        ensures { Gives (λ x. x.arms) result cursor.new (plan.arms (parts.inner self.now.depth) self.now.depth (suc (length cursor.old)) cursor.old) }
+    {
+        let mut found = SizedArms::new(self.alloc);
+        for _turn in 0..=cursor.left() {
+            if !at_arm(cursor) {
+                return Ok(found);
+            }
+            let arm = self.arm(cursor)?;
+            found.push(arm)?;
+        }
+        Err(ReadFault::Syntax(cursor.line()))
+    }
+
+    /// The `else` part of a choice, if there is one, and the `end` of the choice.
+    fn otherwise(&self, cursor: &mut Cursor<'_>) -> Result<SizedOthers, ReadFault>
+        requires { ReadsBodies self.now.depth (F.pre self.now.inner) (F.post self.now.inner) }
+        ensures { Gives (λ x. x.body) result cursor.new (plan.otherwise (parts.inner self.now.depth) self.now.depth cursor.old) }
+    {
+        if let Some(Lexeme::Key(Key::Else, _)) = cursor.peek() {
+            cursor.skip();
+            let body = self.ended(cursor)?;
+            return Ok(SizedOthers::of(body));
+        }
+        pass!(cursor, End);
+        Ok(SizedOthers::none())
+    }
+
+    fn tag(&self, cursor: &mut Cursor<'_>) -> Result<SizedTag, ReadFault>
+        requires { ReadsBodies self.now.depth (F.pre self.now.inner) (F.post self.now.inner) }
+        ensures { Gives (λ x. x.tag) result cursor.new (parts.tag self.now.depth cursor.old) }
+    {
+        pass!(cursor, Tag);
+        let (name, _) = cursor.name(self.alloc)?;
+        let bound = variable(self.alloc, cursor, self.depth)?;
+        pass!(cursor, Colon);
+        let body = self.body(cursor)?;
+        Ok(SizedTag {
+            height: bound.height.max(body.height),
+            tag: TagArm {
+                tag: name,
+                variable: bound.variable,
+                body: body.items,
+                meant: Meant::Unknown,
+            },
+        })
+    }
+
+    fn tags(&self, cursor: &mut Cursor<'_>) -> Result<SizedTags, ReadFault>
+        requires { ReadsBodies self.now.depth (F.pre self.now.inner) (F.post self.now.inner) }
+        ensures { Gives (λ x. x.tags) result cursor.new (plan.tags (parts.inner self.now.depth) self.now.depth (suc (length cursor.old)) cursor.old) }
+    {
+        let mut found = SizedTags::new(self.alloc);
+        for _turn in 0..=cursor.left() {
+            if !at_tag(cursor) {
+                return Ok(found);
+            }
+            let tag = self.tag(cursor)?;
+            found.push(tag)?;
+        }
+        Err(ReadFault::Syntax(cursor.line()))
+    }
+
+    /// The `others` part of a `tagcase`, if there is one, and the `end` of the `tagcase`.
+    #[tactic(auto, using(crate::proofs::Steps::other_parts))]
+    fn others(&self, cursor: &mut Cursor<'_>) -> Result<SizedOthers, ReadFault>
+        requires { ReadsBodies self.now.depth (F.pre self.now.inner) (F.post self.now.inner) }
+        ensures { Gives (λ x. x.body) result cursor.new (plan.others (parts.inner self.now.depth) self.now.depth cursor.old) }
+    {
+        if at_others(cursor) {
+            cursor.skip_two();
+            let body = self.ended(cursor)?;
+            return Ok(SizedOthers::of(body));
+        }
+        pass!(cursor, End);
+        Ok(SizedOthers::none())
+    }
+
+    fn when(&self, cursor: &mut Cursor<'_>) -> Result<SizedWhen, ReadFault>
+        requires { ReadsBodies self.now.depth (F.pre self.now.inner) (F.post self.now.inner) }
+        ensures { Gives (λ x. x.when) result cursor.new (parts.when self.now.depth cursor.old) }
+    {
+        pass!(cursor, When);
+        let names = names(self.alloc, cursor)?;
+        let bound = variable(self.alloc, cursor, self.depth)?;
+        pass!(cursor, Colon);
+        let body = self.body(cursor)?;
+        Ok(SizedWhen {
+            height: bound.height.max(body.height),
+            when: When {
+                names,
+                variable: bound.variable,
+                body: body.items,
+            },
+        })
+    }
+
+    fn whens(&self, cursor: &mut Cursor<'_>) -> Result<SizedWhens, ReadFault>
+        requires { ReadsBodies self.now.depth (F.pre self.now.inner) (F.post self.now.inner) }
+        ensures { Gives (λ x. x.whens) result cursor.new (plan.whens (parts.inner self.now.depth) self.now.depth (suc (length cursor.old)) cursor.old) }
+    {
+        let mut found = SizedWhens::new(self.alloc);
+        for _turn in 0..=cursor.left() {
+            if !at_when(cursor) {
+                return Ok(found);
+            }
+            let when = self.when(cursor)?;
+            found.push(when)?;
+        }
+        Err(ReadFault::Syntax(cursor.line()))
+    }
+
+    /// The `others` part behind the `when` parts of an `except`, if there is one.
+    #[tactic(auto, using(crate::proofs::Steps::other_parts))]
+    fn other_handler(
+        &self,
+        cursor: &mut Cursor<'_>,
+        whens: SizedWhens,
+    ) -> Result<SizedHandlers, ReadFault>
+        requires { ReadsBodies self.now.depth (F.pre self.now.inner) (F.post self.now.inner) }
+        ensures { Gives (λ x. x.handlers) result cursor.new (plan.other_handler (parts.inner self.now.depth) self.now.depth whens.whens cursor.old) }
+    {
+        let others = if at_others(cursor) {
+            cursor.skip_two();
+            SizedOthers::of(self.body(cursor)?)
+        } else {
+            SizedOthers::none()
+        };
+        Ok(SizedHandlers {
+            height: whens.height.max(others.height),
+            handlers: Handlers {
+                whens: whens.whens,
+                others: others.body,
+            },
+        })
+    }
+
+    fn handlers(&self, cursor: &mut Cursor<'_>) -> Result<SizedHandlers, ReadFault>
+        requires { ReadsBodies self.now.depth (F.pre self.now.inner) (F.post self.now.inner) }
+        ensures { Gives (λ x. x.handlers) result cursor.new (plan.handlers (parts.inner self.now.depth) self.now.depth cursor.old) }
+    {
+        let whens = self.whens(cursor)?;
+        self.other_handler(cursor, whens)
+    }
+
+    fn choice(&self, cursor: &mut Cursor<'_>) -> Result<SizedStmt, ReadFault>
+        requires { ReadsBodies self.now.depth (F.pre self.now.inner) (F.post self.now.inner) }
+        ensures { Gives (λ x. x.stmt) result cursor.new (parts.choice self.now.depth cursor.old) }
+    {
+        let line = pass!(cursor, If);
+        let test = expr(self.alloc, cursor, self.depth, 5)?;
+        pass!(cursor, Then);
+        let body = self.body(cursor)?;
+        let arms = self.arms(cursor)?;
+        let others = self.otherwise(cursor)?;
+        node::choice(cursor, self.depth, test, body, arms, others, line)
+    }
+
+    fn repeat(&self, cursor: &mut Cursor<'_>) -> Result<SizedStmt, ReadFault>
+        requires { ReadsBodies self.now.depth (F.pre self.now.inner) (F.post self.now.inner) }
+        ensures { Gives (λ x. x.stmt) result cursor.new (parts.while self.now.depth cursor.old) }
+    {
+        let line = pass!(cursor, While);
+        let test = expr(self.alloc, cursor, self.depth, 5)?;
+        pass!(cursor, Do);
+        let body = self.ended(cursor)?;
+        node::repeat(cursor, self.depth, test, body, line)
+    }
+
+    fn each(&self, cursor: &mut Cursor<'_>) -> Result<SizedStmt, ReadFault>
+        requires { ReadsBodies self.now.depth (F.pre self.now.inner) (F.post self.now.inner) }
+        ensures { Gives (λ x. x.stmt) result cursor.new (parts.for self.now.depth cursor.old) }
+    {
+        let line = pass!(cursor, For);
+        let (name, _) = cursor.name(self.alloc)?;
+        pass!(cursor, Colon);
+        let of = shape(self.alloc, cursor, self.depth)?;
+        pass!(cursor, In);
+        self.each_over(cursor, name, of, line)
+    }
+
+    /// What a `for` goes over, and `do`.
+    fn over(&self, cursor: &mut Cursor<'_>) -> Result<SizedIter, ReadFault>
+        requires { self.now.depth ≤ 200 }
+        ensures { Gives (λ x. x.iter) result cursor.new (parts.over self.now.depth cursor.old) }
+    {
+        let over = iter(self.alloc, cursor, self.depth)?;
+        pass!(cursor, Do);
+        Ok(over)
+    }
+
+    /// The statements inside another one, and `end`.
+    fn ended(&self, cursor: &mut Cursor<'_>) -> Result<SizedStmts, ReadFault>
+        requires { ReadsBodies self.now.depth (F.pre self.now.inner) (F.post self.now.inner) }
+        ensures { Gives (λ x. x.items) result cursor.new (parts.ended self.now.depth cursor.old) }
+    {
+        let body = self.body(cursor)?;
+        pass!(cursor, End);
+        Ok(body)
+    }
+
+    /// The rest of a `for`, behind `in`.
+    fn each_over(
+        &self,
+        cursor: &mut Cursor<'_>,
+        name: Text,
+        of: SizedShape,
+        line: u32,
+    ) -> Result<SizedStmt, ReadFault>
+        requires { ReadsBodies self.now.depth (F.pre self.now.inner) (F.post self.now.inner) }
+        ensures { Gives (λ x. x.stmt) result cursor.new (parts.for_over self.now.depth name line of.shape cursor.old) }
+    {
+        let over = self.over(cursor)?;
+        let body = self.ended(cursor)?;
+        node::each(cursor, self.depth, name, of, over, body, line)
+    }
+
+    fn tagcase(&self, cursor: &mut Cursor<'_>) -> Result<SizedStmt, ReadFault>
+        requires { ReadsBodies self.now.depth (F.pre self.now.inner) (F.post self.now.inner) }
+        ensures { Gives (λ x. x.stmt) result cursor.new (parts.tagcase self.now.depth cursor.old) }
+    {
+        let line = pass!(cursor, Tagcase);
+        let of = expr(self.alloc, cursor, self.depth, 5)?;
+        let tags = self.tags(cursor)?;
+        let others = self.others(cursor)?;
+        node::tagcase(cursor, self.depth, of, tags, others, line)
+    }
+
+    fn begin(&self, cursor: &mut Cursor<'_>) -> Result<SizedStmt, ReadFault>
+        requires { ReadsBodies self.now.depth (F.pre self.now.inner) (F.post self.now.inner) }
+        ensures { Gives (λ x. x.stmt) result cursor.new (parts.begin self.now.depth cursor.old) }
+    {
+        let line = pass!(cursor, Begin);
+        let body = self.ended(cursor)?;
+        node::begin(cursor, self.depth, body, line)
+    }
+
+    fn region(&self, cursor: &mut Cursor<'_>) -> Result<SizedStmt, ReadFault>
+        requires { ReadsBodies self.now.depth (F.pre self.now.inner) (F.post self.now.inner) }
+        ensures { Gives (λ x. x.stmt) result cursor.new (parts.region self.now.depth cursor.old) }
+    {
+        let line = pass!(cursor, Region);
+        let lock = expr(self.alloc, cursor, self.depth, 5)?;
+        pass!(cursor, Do);
+        let body = self.ended(cursor)?;
+        node::region(cursor, self.depth, lock, body, line)
+    }
+
+    /// A statement without what is written behind it.
+    fn alone(&self, cursor: &mut Cursor<'_>) -> Result<SizedStmt, ReadFault>
+        requires { ReadsBodies self.now.depth (F.pre self.now.inner) (F.post self.now.inner) }
+        ensures { Gives (λ x. x.stmt) result cursor.new (kinds.by_kind self.now.depth (kinds.kind_of cursor.old) cursor.old) }
+    {
+        match next_kind(cursor) {
+            Kind::Declaration => simple::declaration(self.alloc, cursor, self.depth),
+            Kind::Assignment => simple::assignment(self.alloc, cursor, self.depth),
+            Kind::Remote => simple::remote_call(self.alloc, cursor, self.depth),
+            Kind::PutLine => simple::put_line(self.alloc, cursor, self.depth),
+            Kind::Sleep => simple::sleep(self.alloc, cursor, self.depth),
+            Kind::Fork => simple::fork(self.alloc, cursor, self.depth),
+            Kind::Return => simple::leave(self.alloc, cursor, self.depth),
+            Kind::Signal => simple::signal(self.alloc, cursor, self.depth),
+            Kind::If => self.choice(cursor),
+            Kind::While => self.repeat(cursor),
+            Kind::For => self.each(cursor),
+            Kind::Tagcase => self.tagcase(cursor),
+            Kind::Begin => self.begin(cursor),
+            Kind::Region => self.region(cursor),
+            Kind::Front => from_front(self.alloc, cursor, self.depth),
+        }
+    }
+
+    /// What is written behind a statement.
+    fn suffix(&self, cursor: &mut Cursor<'_>, of: SizedStmt) -> Result<SizedStmt, ReadFault>
+        requires { ReadsBodies self.now.depth (F.pre self.now.inner) (F.post self.now.inner) }
+        ensures { Gives (λ x. x.stmt) result cursor.new (parts.suffix self.now.depth of.stmt cursor.old) }
+    {
+        match cursor.peek() {
+            Some(Lexeme::Key(Key::Except, _)) => {
+                cursor.skip();
+                let handlers = self.handlers(cursor)?;
+                pass!(cursor, End);
+                node::except(self.alloc, cursor, self.depth, of, handlers)
+            }
+            Some(Lexeme::Key(Key::Resignal, _)) => {
+                cursor.skip();
+                let names = names(self.alloc, cursor)?;
+                node::resignal(self.alloc, cursor, self.depth, of, names)
+            }
+            _ => Err(ReadFault::Syntax(cursor.line())),
+        }
+    }
+
+    fn suffixes(&self, cursor: &mut Cursor<'_>, first: SizedStmt) -> Result<SizedStmt, ReadFault>
+        requires { ReadsBodies self.now.depth (F.pre self.now.inner) (F.post self.now.inner) }
+        ensures { Gives (λ x. x.stmt) result cursor.new (plan.suffixes (parts.inner self.now.depth) self.now.depth (suc self.now.depth) first.stmt cursor.old) }
+    {
+        let mut of = first;
+        for _turn in 0..self.depth + 1 {
+            if !at_suffix(cursor) {
+                return Ok(of);
+            }
+            of = self.suffix(cursor, of)?;
+        }
+        Err(ReadFault::Syntax(cursor.line()))
+    }
+
+    #[tactic(auto, using(crate::proofs::Steps::statements))]
+    fn stmt(&self, cursor: &mut Cursor<'_>) -> Result<SizedStmt, ReadFault>
+        requires { ReadsBodies self.now.depth (F.pre self.now.inner) (F.post self.now.inner) }
+        ensures { Gives (λ x. x.stmt) result cursor.new (plan.stmt (parts.inner self.now.depth) self.now.depth cursor.old) }
+    {
+        let first = self.alone(cursor)?;
+        self.suffixes(cursor, first)
+    }
+
+    /// Reads the statements up to where a body ends.
+    pub fn stmts(&self, cursor: &mut Cursor<'_>) -> Result<SizedStmts, ReadFault>
+        requires { ReadsBodies self.now.depth (F.pre self.now.inner) (F.post self.now.inner) }
+        ensures { Gives (λ x. x.items) result cursor.new (plan.stmts (parts.inner self.now.depth) self.now.depth (suc (length cursor.old)) cursor.old) }
+    {
+        let mut found = SizedStmts::new(self.alloc);
+        for _turn in 0..=cursor.left() {
+            if ends_body(cursor) {
+                return Ok(found);
+            }
+            let stmt = self.stmt(cursor)?;
+            found.push(stmt)?;
+        }
+        Err(ReadFault::Syntax(cursor.line()))
+    }
+}

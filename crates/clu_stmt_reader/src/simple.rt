@@ -1,0 +1,163 @@
+//! Statements that hold no others.
+
+ghost use Rattle.std.specs.Prelude.{◌≡◌, ◌≤◌};
+ghost use Rattle.clu_grammar.specs.Grammar.{line_of};
+ghost use Rattle.clu_grammar.specs.StmtPlan as plan;
+ghost use Rattle.clu_expr_reader.specs.Gives.{Gives};
+ghost use Rattle.clu_stmt_reader.specs.Parts as parts;
+
+use crate::follow::carried;
+use crate::node;
+use crate::pass::pass;
+use crate::remote::remote;
+use crate::sized::{SizedStmt, SizedTarget, SizedValue};
+use clu_expr_reader::{Cursor, ReadFault, SizedShape, args, expr, shape};
+use clu_tree::{Key, Lexeme, Meant, Target, Text};
+use std::alloc::Global;
+
+/// Reads the initial value of a variable, if one is written.
+fn declared(
+    alloc: Global,
+    cursor: &mut Cursor<'_>,
+    depth: u32,
+    name: Text,
+    line: u32,
+    of: SizedShape,
+) -> Result<SizedStmt, ReadFault>
+    requires { depth ≤ 200 }
+    ensures { Gives (λ x. x.stmt) result cursor.new (plan.declared (parts.inner depth) depth name line of.shape cursor.old) }
+{
+    if let Some(Lexeme::Key(Key::Becomes, _)) = cursor.peek() {
+        cursor.skip();
+        let value = SizedValue::of(expr(alloc, cursor, depth, 5)?);
+        return node::declare(cursor, depth, name, of, value, line);
+    }
+    node::declare(cursor, depth, name, of, SizedValue::none(), line)
+}
+
+pub fn declaration(
+    alloc: Global,
+    cursor: &mut Cursor<'_>,
+    depth: u32,
+) -> Result<SizedStmt, ReadFault>
+    requires { depth ≤ 200 }
+    ensures { Gives (λ x. x.stmt) result cursor.new (parts.declaration depth cursor.old) }
+{
+    let (name, line) = cursor.name(alloc)?;
+    pass!(cursor, Colon);
+    let of = shape(alloc, cursor, depth)?;
+    declared(alloc, cursor, depth, name, line, of)
+}
+
+/// Whether a remote call comes next.
+fn begins_remote(cursor: &Cursor<'_>) -> bool
+    ensures { result ≡ plan.begins_remote cursor.now }
+{
+    matches!(cursor.peek(), Some(Lexeme::Key(Key::Once | Key::Maybe, _)))
+}
+
+fn named(name: Text, line: u32) -> SizedTarget
+    ensures { result.target ≡ Target.Name name line Meant.Unknown }
+{
+    SizedTarget {
+        target: Target::Name(name, line, Meant::Unknown),
+        height: 0,
+    }
+}
+
+/// Reads what a variable is assigned.
+fn assigned(
+    alloc: Global,
+    cursor: &mut Cursor<'_>,
+    depth: u32,
+    name: Text,
+    line: u32,
+) -> Result<SizedStmt, ReadFault>
+    requires { depth ≤ 200 }
+    ensures { Gives (λ x. x.stmt) result cursor.new (plan.assigned (parts.inner depth) depth name line cursor.old) }
+{
+    if begins_remote(cursor) {
+        let call = remote(alloc, cursor, depth)?;
+        return node::remote(cursor, depth, Some(name), call, line);
+    }
+    let value = expr(alloc, cursor, depth, 5)?;
+    node::assign(cursor, depth, named(name, line), value, line)
+}
+
+pub fn assignment(
+    alloc: Global,
+    cursor: &mut Cursor<'_>,
+    depth: u32,
+) -> Result<SizedStmt, ReadFault>
+    requires { depth ≤ 200 }
+    ensures { Gives (λ x. x.stmt) result cursor.new (parts.assignment depth cursor.old) }
+{
+    let (name, line) = cursor.name(alloc)?;
+    pass!(cursor, Becomes);
+    assigned(alloc, cursor, depth, name, line)
+}
+
+pub fn remote_call(
+    alloc: Global,
+    cursor: &mut Cursor<'_>,
+    depth: u32,
+) -> Result<SizedStmt, ReadFault>
+    requires { depth ≤ 200 }
+    ensures { Gives (λ x. x.stmt) result cursor.new (parts.remote_call depth (line_of cursor.old) cursor.old) }
+{
+    let line = cursor.first_line();
+    let call = remote(alloc, cursor, depth)?;
+    node::remote(cursor, depth, None, call, line)
+}
+
+pub fn put_line(alloc: Global, cursor: &mut Cursor<'_>, depth: u32) -> Result<SizedStmt, ReadFault>
+    requires { depth ≤ 200 }
+    ensures { Gives (λ x. x.stmt) result cursor.new (parts.put_line depth cursor.old) }
+{
+    let line = pass!(cursor, PutLine);
+    pass!(cursor, LParen);
+    let text = expr(alloc, cursor, depth, 5)?;
+    pass!(cursor, RParen);
+    node::put_line(cursor, depth, text, line)
+}
+
+pub fn sleep(alloc: Global, cursor: &mut Cursor<'_>, depth: u32) -> Result<SizedStmt, ReadFault>
+    requires { depth ≤ 200 }
+    ensures { Gives (λ x. x.stmt) result cursor.new (parts.sleep depth cursor.old) }
+{
+    let line = pass!(cursor, Sleep);
+    pass!(cursor, LParen);
+    let time = expr(alloc, cursor, depth, 5)?;
+    pass!(cursor, RParen);
+    node::sleep(cursor, depth, time, line)
+}
+
+pub fn fork(alloc: Global, cursor: &mut Cursor<'_>, depth: u32) -> Result<SizedStmt, ReadFault>
+    requires { depth ≤ 200 }
+    ensures { Gives (λ x. x.stmt) result cursor.new (parts.fork depth cursor.old) }
+{
+    let line = pass!(cursor, Fork);
+    let (name, _) = cursor.name(alloc)?;
+    pass!(cursor, LParen);
+    let given = args(alloc, cursor, depth)?;
+    node::fork(cursor, depth, name, given, line)
+}
+
+pub fn leave(alloc: Global, cursor: &mut Cursor<'_>, depth: u32) -> Result<SizedStmt, ReadFault>
+    requires { depth ≤ 200 }
+    ensures { Gives (λ x. x.stmt) result cursor.new (parts.return depth cursor.old) }
+{
+    let line = pass!(cursor, Return);
+    let value = carried(alloc, cursor, depth)?;
+    node::leave(cursor, depth, value, line)
+}
+
+pub fn signal(alloc: Global, cursor: &mut Cursor<'_>, depth: u32) -> Result<SizedStmt, ReadFault>
+    requires { depth ≤ 200 }
+    ensures { Gives (λ x. x.stmt) result cursor.new (parts.signal depth cursor.old) }
+{
+    let line = pass!(cursor, Signal);
+    let (name, _) = cursor.name(alloc)?;
+    let value = carried(alloc, cursor, depth)?;
+    node::signal(cursor, depth, name, value, line)
+}
