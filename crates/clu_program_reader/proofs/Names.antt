@@ -8,6 +8,6 @@ pub same : (z x : List ℕ) → z ≡ x → bytes_eq z x ≡ true
 same z x e = (bytes_eq-Decides z x).1 e
 
 pub other : (z x : List ℕ) → (z ≡ x → ⊥) → bytes_eq z x ≡ false
-other z x h = elim (cases_Bool (bytes_eq z x)) [ | inl e ↦ absurd (h ((bytes_eq-Decides z x).0 e)) | inr e ↦ e ]
+other z x h = elim (cases_Bool (bytes_eq z x)) [ inl e ↦ absurd (h ((bytes_eq-Decides z x).0 e)) | inr e ↦ e ]
 
 pub ruleset same_names = (same, other)

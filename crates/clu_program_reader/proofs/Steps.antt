@@ -121,13 +121,12 @@ routines-many zero ts = refl
 routines-many (suc n) ts =
     turned (plan.ends_cluster ts) _ _
     ∙ ap (λ (o : Found (List Routine)). if not (plan.ends_cluster ts) then o else Some ([], ts))
-        (bind_same (λ x m. ap (λ (o : Found (List Routine)). o >>= λ xs r. Some (x ∷ xs, r)) (routines-many n m)) (plan.routine 200 ts))
+    (bind_same (λ x m. ap (λ (o : Found (List Routine)). o >>= λ xs r. Some (x ∷ xs, r)) (routines-many n m)) (plan.routine 200 ts))
 
 -- ---- node blocks
 
 node_part-export : (ts : Tokens) → parts.at_export ts ≡ true → parts.node_part ts ≡ parts.export ts
 node_part-export ts h = cond-true (parts.at_export ts) _ _ h
-
 
 start_then : (l k j : ℕ) (x : List ℕ) (m : Tokens) (f g : Parser (List NodePart)) → ((q : Tokens) → f q ≡ (g q >>= end_key)) →
     (plan.values m >>= λ vs q. f q >>= λ ps r. Some (np.Start x vs l ∷ ps, r)) ≡ ((parts.start (lexeme.Key key.Start l ∷ lexeme.Name x k ∷ lexeme.Key key.LParen j ∷ m) >>= λ p q. g q >>= λ ps r. Some (p ∷ ps, r)) >>= end_key)

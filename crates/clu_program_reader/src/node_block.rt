@@ -77,10 +77,7 @@ fn all_parts(alloc: Global, cursor: &mut Cursor<'_>) -> Result<Items<NodePart>, 
 
 /// Reads the parts of a node block, and the `end` behind them.
 #[tactic(auto, using(crate::proofs::Steps::node_blocks))]
-pub fn node_parts(
-    alloc: Global,
-    cursor: &mut Cursor<'_>,
-) -> Result<Items<NodePart>, ReadFault>
+pub fn node_parts(alloc: Global, cursor: &mut Cursor<'_>) -> Result<Items<NodePart>, ReadFault>
     ensures { Gives (λ x. x) result cursor.new (plan.node_parts (suc (length cursor.old)) cursor.old) }
 {
     let found = all_parts(alloc, cursor)?;

@@ -1,10 +1,3 @@
-pub mod Numbers
-pub mod Reserved
-pub mod Spelling
-pub mod Joining
-pub mod Scanning
-pub mod Faulting
-pub mod Grouping
-pub mod Reading
-pub mod Whole
-pub mod Typedness
+mod Judges
+mod Few
+mod Whole

@@ -1,22 +1,28 @@
--- Texts and the programs that they read as.
-use Rattle.std.proofs.Common.{◌≡◌, ℕ, ◌≤◌, List, length, subst}
+-- A text is one program at most.
+use Rattle.std.proofs.Common.{◌≡◌, ℕ, List, sym, subst}
+use Rattle.clu_tree.specs.declared.lexeme.Lexeme.{Lexeme}
 use Rattle.clu_tree.specs.declared.program.Program.{Program}
-use Rattle.clu_tree.specs.Lexical.{HasTokens}
-use Rattle.clu_tree.specs.Grammar.{Tokens, ReadsProgram, Reads}
-use Rattle.clu_reader.proofs.Scanning.{one_scan}
-use Rattle.clu_reader.proofs.Reading.{one_program}
+use Rattle.clu_text.specs.declared.token.Token.{Token}
+use Rattle.clu_text.specs.Tokens.{HasTokens}
+use Rattle.clu_lexeme.specs.Lexemes.{AreLexemes}
+use Rattle.clu_grammar.specs.Grammar.{Tokens, ReadsProgram}
+use Rattle.clu_reader.specs.Reads.{Reads}
 
-pub reads-made : (text : List ℕ) (tokens : Tokens) (p : Program) → length text ≤ 1048576 → HasTokens text tokens → ReadsProgram tokens p → Reads text p
-reads-made text tokens p short scanned read = record { tokens = tokens; short = short; scanned = scanned; read = read }
+-- a text has one list of tokens, tokens are one list of lexemes, and lexemes read as one program
+abbrev pub OneTokens : Type 0
+OneTokens = (text : List ℕ) (ts us : List Token) → HasTokens text ts → HasTokens text us → ts ≡ us
 
--- no program where there are no tokens
-pub no_tokens : (text : List ℕ) → ((ts : Tokens) → HasTokens text ts → ⊥) → (p : Program) → Reads text p → ⊥
-no_tokens text none p r = none r.tokens r.scanned
+abbrev pub OneLexemes : Type 0
+OneLexemes = (text : List ℕ) (tokens : List Token) (xs ys : List Lexeme) → AreLexemes text tokens xs → AreLexemes text tokens ys → xs ≡ ys
 
--- no program where the tokens are none
-pub no_program : (text : List ℕ) (tokens : Tokens) → HasTokens text tokens → ((p : Program) → ReadsProgram tokens p → ⊥) → (p : Program) → Reads text p → ⊥
-no_program text tokens scanned none p r = none p (subst (λ ts. ReadsProgram ts p) (one_scan 1 text r.tokens tokens r.scanned scanned) r.read)
+abbrev pub OneProgram : Type 0
+OneProgram = (ts : Tokens) (p q : Program) → ReadsProgram ts p → ReadsProgram ts q → p ≡ q
 
--- No text has two trees.
-pub one_reading : (text : List ℕ) (p q : Program) → Reads text p → Reads text q → p ≡ q
-one_reading text p q a b = one_program a.tokens p q a.read (subst (λ ts. ReadsProgram ts q) (one_scan 1 text b.tokens a.tokens b.scanned a.scanned) b.read)
+-- the lexemes of a text that reads are those that its tokens are
+pub same_lexemes : OneTokens → OneLexemes → (text : List ℕ) (tokens : List Token) (xs : List Lexeme) (p : Program) (r : Reads text p) → HasTokens text tokens → AreLexemes text tokens xs → r.lexemes ≡ xs
+same_lexemes tokens_one lexemes_one text tokens xs p r scanned told =
+    lexemes_one text tokens r.lexemes xs (subst (λ ts. AreLexemes text ts r.lexemes) (tokens_one text r.tokens tokens r.scanned scanned) r.told) told
+
+pub one_reading : OneTokens → OneLexemes → OneProgram → (text : List ℕ) (p q : Program) → Reads text p → Reads text q → p ≡ q
+one_reading tokens_one lexemes_one program_one text p q a b =
+    program_one a.lexemes p q a.read (subst (λ xs. ReadsProgram xs q) (same_lexemes tokens_one lexemes_one text a.tokens a.lexemes q b a.scanned a.told) b.read)

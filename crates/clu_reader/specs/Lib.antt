@@ -1,5 +1,4 @@
-pub mod Words
-pub mod Extent
-pub mod Faults
-pub mod Plan
+pub mod Reads
+pub mod Accepted
+pub mod Judging
 pub mod Parts

@@ -1,12 +1,7 @@
 -- What `check` looks at in a program.
 use Rattle.std.specs.Prelude.{◌≡◌, length, All}
-use Rattle.clu_tree.specs.Typed.{IsTypedStmt, IsTypedNode, AreNumbered}
-use Rattle.clu_tree.specs.declared.program.Routine.{Routine}
+use Rattle.clu_tree.specs.Typed.{IsTypedNode, AreNumbered}
 use Rattle.clu_tree.specs.declared.program.Program.{Program}
-
--- the routine's statements are typed
-abbrev pub HasTypedBody : Routine → Type 0
-HasTypedBody routine = All IsTypedStmt routine.body
 
 -- The program has one node block, numbered 1, and it is typed.
 pub record HasTypedNode (program : Program) : Type 0 where

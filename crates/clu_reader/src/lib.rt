@@ -1,19 +1,15 @@
 //! Reads the text of a program, and tells whether the program is accepted.
 #![tactic(auto)]
 
-mod cursor;
-mod expr;
+mod accepting;
 mod fault;
-mod grammar;
 mod program;
-mod scan;
-mod stmt;
 #[cfg(test)]
 mod tests;
-mod token;
 mod typing;
-mod words;
 
-pub use fault::{AcceptFault, CheckFault, ReadFault};
-pub use program::read_program;
-pub use typing::{accept, check, no_text_has_two_trees};
+pub use accepting::accept;
+pub use clu_expr_reader::ReadFault;
+pub use fault::{AcceptFault, CheckFault};
+pub use program::{no_text_has_two_trees, read_program};
+pub use typing::check;

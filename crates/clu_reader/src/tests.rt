@@ -1,26 +1,118 @@
 use super::*;
+use clu_text::tokens;
 use clu_tree::{Expr, NodePart, Program, Stmt, Value};
 use std::alloc::{AllocError, Global};
 use std::process::Abort;
 use std::test::Fail;
 
-const HELLO: &[u8] =
-    b"hello = proc ()\n  put_line(\"hi\")\nend hello\nnode 1 is start hello() end\n";
+/// Programs of many forms, as a user would write them.
+const PROGRAMS: [(&str, &[u8]); 12] = [
+    (
+        "hello",
+        b"hello = proc ()\n  put_line(\"hi\")\nend hello\nnode 1 is start hello() end",
+    ),
+    (
+        "nap",
+        b"nap = proc ()\n  sleep(100)\n  put_line(\"up\")\nend nap\nnode 1 is start nap() end",
+    ),
+    (
+        "add",
+        b"add = proc (a: int, b: int) returns (int)\n  return (a + b)\nend add\nmain1 = proc ()\n  x: int\n  x := once add(2, 3) at 2\n  put_line(int$unparse(x))\nend main1\nnode 1 is start main1() end\nnode 2 is export add end",
+    ),
+    (
+        "two",
+        b"add = proc (a: int, b: int) returns (int)\n  return (a + b)\nend add\nmain1 = proc ()\n  x: int\n  for i: int in int$from_to(1, 2) do\n    x := once add(i, i) at 2\n    put_line(int$unparse(x))\n  end\nend main1\nnode 1 is start main1() end\nnode 2 is export add end",
+    ),
+    (
+        "mb",
+        b"add = proc (a: int, b: int) returns (int)\n  return (a + b)\nend add\nmain1 = proc ()\n  begin\n    x: int := 0\n    x := maybe add(2, 3) at 2 within 100\n    put_line(int$unparse(x))\n  end except when no_answer:\n    put_line(\"none\")\n  end\nend main1\nnode 1 is start main1() end\nnode 2 is export add end",
+    ),
+    (
+        "loop",
+        b"p = proc ()\n  for i: int in int$from_to(1, 3) do\n    put_line(int$unparse(i))\n  end\nend p\nnode 1 is start p() end",
+    ),
+    (
+        "bag",
+        b"bag = cluster is make, print\n  rep = array[int]\n  make = proc () returns (cvt)\n    return (rep$new())\n  end make\n  print = proc (b: cvt) returns (string)\n    rep$addh(b, 1)\n    return (\"bag\")\n  end print\nend bag\np = proc ()\n  b: bag := bag$make()\n  sleep(10)\nend p\nnode 1 is start p() end",
+    ),
+    (
+        "spin",
+        b"spin = cluster is make, print\n  rep = int\n  make = proc () returns (cvt)\n    return (0)\n  end make\n  print = proc (b: cvt) returns (string)\n    for i: int in int$from_to(1, 9993) do\n    end\n    return (\"x\")\n  end print\nend spin\np = proc ()\n  b: spin := spin$make()\n  sleep(10)\nend p\nnode 1 is start p() end",
+    ),
+    (
+        "chain",
+        b"c3 = proc () returns (int)\n  sleep(1000)\n  return (1)\nend c3\nc2 = proc () returns (int)\n  x: int\n  x := once c3() at 3\n  return (x)\nend c2\nc1 = proc ()\n  x: int\n  x := once c2() at 2\nend c1\nnode 1 is start c1() end\nnode 2 is export c2 end\nnode 3 is export c3 end",
+    ),
+    (
+        "nat",
+        b"nat = cluster is zero, next\n  rep = oneof[z: null, s: nat]\n  zero = proc () returns (cvt)\n    return (rep$make_z(nil))\n  end zero\n  next = proc (n: nat) returns (cvt)\n    return (rep$make_s(n))\n  end next\nend nat\ntaker = proc (n: nat)\nend taker\np = proc (k: int)\n  n: nat := nat$zero()\n  for i: int in int$from_to(1, k) do\n    n := nat$next(n)\n  end\n  once taker(n) at 1\n    except when failure (s: string): put_line(s) end\nend p\nnode 1 is export taker start p(62) end",
+    ),
+    (
+        "arith",
+        b"p = proc ()\n  put_line(int$unparse(-7 / 2))\n  put_line(int$unparse(-7 // 2))\n  put_line(int$unparse((-9223372036854775807 - 1) / -1))\n    except when overflow: put_line(\"overflow\") end\n  a: array[int] := array[int]$[5, 6]\n  put_line(int$unparse(a[3]))\n    except when bounds: put_line(\"bounds\") end\nend p\nnode 1 is start p() end",
+    ),
+    (
+        "bank",
+        b"acct = cluster is make, add, print\n  rep = record[sum: int]\n  make = proc (n: int) returns (cvt)\n    return (rep${sum: n})\n  end make\n  add = proc (a: cvt, n: int) returns (int)\n    a.sum := a.sum + n\n    return (a.sum)\n  end add\n  print = proc (a: cvt) returns (string)\n    return (\"sum \" || int$unparse(a.sum))\n  end print\nend acct\nnodevar guard: lock := lock$create()\nnodevar book: array[acct] := array[acct]$new()\nnodevar left: int := 2\nmove = proc (source: int, n: int)\n  region guard do\n    if array[acct]$size(book) = 0 then\n      array[acct]$addh(book, acct$make(100))\n      array[acct]$addh(book, acct$make(100))\n    end\n    acct$add(book[source], -n)\n    acct$add(book[3 - source], n)\n  end\nend move\nclose = proc ()\n  region guard do\n    left := left - 1\n    if left = 0 then\n      put_line(acct$print(book[1]) || \", \" || acct$print(book[2]))\n    end\n  end\nend close\nteller = proc (source: int, n: int)\n  for i: int in int$from_to(1, 10) do\n    once move(source, n) at 3\n  end\n  once close() at 3\nend teller\nnode 1 is start teller(1, 3) end\nnode 2 is start teller(2, 1) end\nnode 3 is export move export close end",
+    ),
+];
 
-fn statements(program: &Program) -> usize {
-    match program.routines.as_slice() {
-        [routine] => routine.body.len(),
-        _ => 0,
+/// Whether the text reads, or the line where reading failed.
+fn program(rt: &impl Abort, alloc: Global, text: &[u8]) -> Result<Result<(), u32>, Fail> {
+    assert!(rt; text.len() <= 1048576);
+    let found = tokens(alloc, text)?;
+    match read_program(alloc, text, found.as_slice()) {
+        Ok(_) => Ok(Ok(())),
+        Err(ReadFault::Syntax(line)) => Ok(Err(line)),
+        Err(ReadFault::Memory) => panic!(rt; "memory ran out"),
     }
 }
 
-/// How many statements the accepted program has, or the line where it is refused; 0 stands for want of memory.
+/// The same for statements, which stand from line 2 on in a routine that ends on the line of the last one.
+fn statement(rt: &impl Abort, alloc: Global, text: &[u8]) -> Result<Result<(), u32>, Fail> {
+    let whole = repeated(alloc, b"p = proc ()\n", text, 1, b"\tend p")?;
+    program(rt, alloc, whole.as_slice())
+}
+
+/// The same for an expression, which stands on line 2.
+fn expression(rt: &impl Abort, alloc: Global, text: &[u8]) -> Result<Result<(), u32>, Fail> {
+    let whole = repeated(alloc, b"x := ", text, 1, b"")?;
+    statement(rt, alloc, whole.as_slice())
+}
+
+/// A text of `piece` so many times, with what stands before and behind.
+fn repeated(
+    alloc: Global,
+    before: &[u8],
+    piece: &[u8],
+    count: usize,
+    behind: &[u8],
+) -> Result<Vec<u8>, AllocError> {
+    let mut text = Vec::from_slice(alloc, before)?;
+    for _ in 0..count {
+        text.extend_from_slice(piece)?;
+    }
+    text.extend_from_slice(behind)?;
+    Ok(text)
+}
+
+const HELLO: &[u8] =
+    b"hello = proc ()\n  put_line(\"hi\")\nend hello\nnode 1 is start hello() end\n";
+
+/// How many statements the accepted program has, or the line where it is refused.
 fn answer(rt: &impl Abort, alloc: Global, text: &[u8]) -> Result<usize, u32> {
     assert!(rt; text.len() <= 1048576);
     match accept(alloc, text) {
         Ok(program) => Ok(statements(&program)),
         Err(AcceptFault::Refused(line)) => Err(line),
-        Err(AcceptFault::Memory) => Err(0),
+        Err(AcceptFault::Memory) => panic!(rt; "memory ran out"),
+    }
+}
+
+fn statements(program: &Program) -> usize {
+    match program.routines.as_slice() {
+        [routine] => routine.body.len(),
+        _ => 0,
     }
 }
 
@@ -42,7 +134,7 @@ fn accepts_and_refuses(rt: HostRuntime) {
             Ok(0),
         ),
         (b"", Err(1)),
-        (b"\n\n", Err(2)),
+        (b"\n\n", Err(1)),
         (b"node", Err(1)),
         (b"node 1 is\n\n", Err(2)),
         (b"node 1 is", Err(1)),
@@ -55,7 +147,7 @@ fn accepts_and_refuses(rt: HostRuntime) {
         (b"node 9223372036854775808 is end", Err(1)),
         (b"node 1 is end\nnode 2 is end", Err(2)),
         (b"node 1 is\nexport a end", Err(2)),
-        (b"% c\nnode 1 is end", Err(1)),
+        (b"% c\nnode 1 is end % d", Ok(0)),
         (b"a = proc ()\nend b\nnode 1 is end", Err(2)),
         (b"a = proc ()\n\nnode 1 is end", Err(3)),
         (
@@ -66,7 +158,7 @@ fn accepts_and_refuses(rt: HostRuntime) {
         (b"string = proc () end string\nnode 1 is end", Err(1)),
         (
             b"a = proc ()\nput_line(\"\\n\")\nend a\nnode 1 is end",
-            Err(2),
+            Ok(1),
         ),
         (b"a = proc ()\nput_line(\"x\nend a\nnode 1 is end", Err(2)),
         (
@@ -148,91 +240,500 @@ fn names_the_line_of_a_statement(rt: HostRuntime) -> Result<(), Fail> {
     Ok(())
 }
 
-/// A text of `piece` so many times, with what stands before and behind.
-fn repeated(
-    alloc: Global,
-    before: &[u8],
-    piece: &[u8],
-    count: usize,
-    behind: &[u8],
-) -> Result<Vec<u8>, AllocError> {
-    let mut text = Vec::from_slice(alloc, before)?;
-    for _ in 0..count {
-        text.extend_from_slice(piece)?;
+#[test]
+fn reads_each_statement(rt: HostRuntime) -> Result<(), Fail> {
+    let table: [(&[u8], Result<(), u32>); 54] = [
+        (b"x: int", Ok(())),
+        (b"x: int := 1", Ok(())),
+        (b"x := 1", Ok(())),
+        (b"x.f := 1", Ok(())),
+        (b"x[1] := 2", Ok(())),
+        (b"x.f[1].g := 2", Ok(())),
+        (b"f(x).g := 1", Ok(())),
+        (b"(x).f := 2", Ok(())),
+        (b"((x)).f := 2", Ok(())),
+        (b"up(x).f := 1", Ok(())),
+        (b"now().f := 1", Ok(())),
+        (b"t$op(x)[1] := 2", Ok(())),
+        (b"array[int]$[1, 2][1] := 3", Ok(())),
+        (b"once p() at 1", Ok(())),
+        (b"x := once p(1, a) at n + 1", Ok(())),
+        (b"maybe p() at 1 within 100", Ok(())),
+        (b"x := maybe p(a) at 2 within n", Ok(())),
+        (b"f()", Ok(())),
+        (b"f(1, g(2))", Ok(())),
+        (b"t$op(1)", Ok(())),
+        (b"int$unparse(1)", Ok(())),
+        (b"t$if(1)", Ok(())),
+        (b"array[array[int]]$new()", Ok(())),
+        (b"put_line(\"a\" || \"b\")", Ok(())),
+        (b"sleep(1)", Ok(())),
+        (b"fork p()", Ok(())),
+        (b"fork p(1, 2)", Ok(())),
+        (b"return", Ok(())),
+        (b"return (1)", Ok(())),
+        (b"signal n", Ok(())),
+        (b"signal n (1)", Ok(())),
+        (b"if a then end", Ok(())),
+        (
+            b"if a then f() elseif b then g() elseif c then else h() end",
+            Ok(()),
+        ),
+        (b"while a do f() end", Ok(())),
+        (b"for i: int in int$from_to(1, 2) do f(i) end", Ok(())),
+        (b"for x: t in array[t]$elements(a) do f(x) end", Ok(())),
+        (b"for x: int in int$elements(a) do end", Ok(())),
+        (b"tagcase x end", Ok(())),
+        (
+            b"tagcase x tag a: f() tag b (y: int): g() others: h() end",
+            Ok(()),
+        ),
+        (b"tagcase x others: end", Ok(())),
+        (b"begin end", Ok(())),
+        (b"begin f() g() end", Ok(())),
+        (b"region l do f() end", Ok(())),
+        (b"f() except when a: g() end", Ok(())),
+        (
+            b"f() except when a, b (x: int): when c: others: h() end",
+            Ok(()),
+        ),
+        (b"f() except end", Ok(())),
+        (b"f() resignal a", Ok(())),
+        (b"f() resignal a, b resignal c except others: end", Ok(())),
+        (b"x: record[a: int, b: oneof[c: null, d: cvt]]", Ok(())),
+        (b"x: array[rep] := rep$[]", Ok(())),
+        (b"x: lock := lock$create()", Ok(())),
+        (b"x: semaphore", Ok(())),
+        (b"x: char := 'a'", Ok(())),
+        (b"x: char := 'a' % a comment\nf()", Ok(())),
+    ];
+    for (text, wanted) in table {
+        let read = statement(&rt, rt.alloc(), text)?;
+        assert_eq!(rt; read, wanted, "{}", text.escape_ascii());
     }
-    text.extend_from_slice(behind)?;
-    Ok(text)
+    Ok(())
 }
 
 #[test]
-fn keeps_the_limits(rt: HostRuntime) -> Result<(), Fail> {
-    let open: &[u8] = b"a = proc ()\nput_line(";
-    let close: &[u8] = b"\nend a\nnode 1 is end";
-    let table: [(&[u8], &[u8], usize, &[u8], Result<usize, u32>); 10] = [
-        (b"node ", b"a", 64, b"", Err(1)),
-        (b"node 1 is\n", b"a", 65, b" end", Err(2)),
-        (b"node ", b"0", 65, b"1 is end", Ok(0)),
+fn looks_ahead_behind_brackets(rt: HostRuntime) -> Result<(), Fail> {
+    let table: [(&[u8], Result<(), u32>); 18] = [
+        (b"y := y\n(x).f := 2", Ok(())),
+        (b"y := y (x).f := 2", Ok(())),
+        (b"y := y (x)[1].g := 2", Ok(())),
+        (b"return\n(a).b := 1", Ok(())),
+        (b"return (a).b := 1", Ok(())),
+        (b"return (a)\n(b).c := 1", Ok(())),
+        (b"signal n (a).b := 1", Ok(())),
+        (b"signal n (a)\n(b).c := 1", Ok(())),
+        (b"x: int := y (z).f := 1", Ok(())),
+        (b"once p() at n (x).f := 1", Ok(())),
+        (b"maybe p() at 1 within n (x).f := 1", Ok(())),
+        (b"y := f (x)", Ok(())),
+        (b"y := f (x).g", Ok(())),
+        (b"y := a.f (x).g := 1", Ok(())),
+        (b"y := g(f (x)) (z).h := 1", Ok(())),
+        (b"x: int\n(y).f := 1", Ok(())),
+        (b"f()\n(x).f := 2", Ok(())),
+        (b"y := a[f (x)] (z).h := 1", Ok(())),
+    ];
+    for (text, wanted) in table {
+        let read = statement(&rt, rt.alloc(), text)?;
+        assert_eq!(rt; read, wanted, "{}", text.escape_ascii());
+    }
+    Ok(())
+}
+
+#[test]
+fn reads_each_expression(rt: HostRuntime) -> Result<(), Fail> {
+    let table: [(&[u8], Result<(), u32>); 39] = [
+        (b"1", Ok(())),
+        (b"'a'", Ok(())),
+        (b"\"s\"", Ok(())),
+        (b"nil", Ok(())),
+        (b"true", Ok(())),
+        (b"false", Ok(())),
+        (b"now()", Ok(())),
+        (b"(1)", Ok(())),
+        (b"((1))", Ok(())),
+        (b"-1", Ok(())),
+        (b"- -1", Ok(())),
+        (b"~~b", Ok(())),
+        (b"-a.f", Ok(())),
+        (b"a + b - c || d", Ok(())),
+        (b"a * b / c // d", Ok(())),
+        (b"a < b", Ok(())),
+        (b"a <= b", Ok(())),
+        (b"a = b", Ok(())),
+        (b"a ~= b", Ok(())),
+        (b"a >= b", Ok(())),
+        (b"a > b", Ok(())),
+        (b"a & b cand c", Ok(())),
+        (b"a | b cor c", Ok(())),
+        (b"a + b < c * d & e | f", Ok(())),
+        (b"(a < b) = (c < d)", Ok(())),
+        (b"f()", Ok(())),
+        (b"f(1)", Ok(())),
+        (b"t${f: 1}", Ok(())),
+        (b"t${f: 1, g: 2}", Ok(())),
+        (b"t$[]", Ok(())),
+        (b"t$[1]", Ok(())),
+        (b"record[a: int]${a: 1}", Ok(())),
+        (b"oneof[a: int, b: null]$make_a(1)", Ok(())),
+        (b"up(x)", Ok(())),
+        (b"down(x).f", Ok(())),
+        (b"a[b[c]].d[e]", Ok(())),
+        (b"t$and(a, b)", Ok(())),
+        (b"int$unparse(-7 // 2)", Ok(())),
+        (b"f(g(h(1)), 2)[3]", Ok(())),
+    ];
+    for (text, wanted) in table {
+        let read = expression(&rt, rt.alloc(), text)?;
+        assert_eq!(rt; read, wanted, "{}", text.escape_ascii());
+    }
+    Ok(())
+}
+
+#[test]
+fn refuses_each_expression(rt: HostRuntime) -> Result<(), Fail> {
+    let table: [(&[u8], Result<(), u32>); 33] = [
+        (b"a < b < c", Err(2)),
+        (b"a = b = c", Err(2)),
+        (b"a +", Err(2)),
+        (b"~", Err(2)),
+        (b"-", Err(2)),
+        (b"(1", Err(2)),
+        (b"()", Err(2)),
+        (b"1)", Err(2)),
+        (b"t${}", Err(2)),
+        (b"t${f}", Err(2)),
+        (b"t${f: 1,}", Err(2)),
+        (b"t$[1,]", Err(2)),
+        (b"t$[1", Err(2)),
+        (b"f(1,)", Err(2)),
+        (b"f(1", Err(2)),
+        (b"a.", Err(2)),
+        (b"a.1", Err(2)),
+        (b"a[1", Err(2)),
+        (b"a[]", Err(2)),
+        (b"t$", Err(2)),
+        (b"t$1", Err(2)),
+        (b"t$x", Err(2)),
+        (b"now", Err(2)),
+        (b"now(1)", Err(2)),
+        (b"up x", Err(2)),
+        (b"up(1", Err(2)),
+        (b"up()", Err(2)),
+        (b"a ~ b", Err(2)),
+        (b"a b", Err(2)),
+        (b"lock$", Err(2)),
+        (b"array[int]", Err(2)),
+        (b"if", Err(2)),
+        (b"a := b", Err(2)),
+    ];
+    for (text, wanted) in table {
+        let read = expression(&rt, rt.alloc(), text)?;
+        assert_eq!(rt; read, wanted, "{}", text.escape_ascii());
+    }
+    Ok(())
+}
+
+#[test]
+fn refuses_each_statement(rt: HostRuntime) -> Result<(), Fail> {
+    let table: [(&[u8], Result<(), u32>); 37] = [
+        (b"x", Err(2)),
+        (b"x :=", Err(2)),
+        (b"x:", Err(2)),
+        (b"x: int :=", Err(2)),
+        (b"(f())", Err(2)),
+        (b"(f)", Err(2)),
+        (b"(a.f) := 1", Err(2)),
+        (b"1", Err(2)),
+        (b"f() := 1", Err(2)),
+        (b"f", Err(2)),
+        (b"x.f", Err(2)),
+        (b"x: array", Err(2)),
+        (b"x: array[]", Err(2)),
+        (b"x: array[int", Err(2)),
+        (b"x: record[]", Err(2)),
+        (b"x: record[a]", Err(2)),
+        (b"x: record[a: int,]", Err(2)),
+        (b"x: oneof[a: int", Err(2)),
+        (b"x: 1", Err(2)),
+        (b"once p at 1", Err(2)),
+        (b"once p()", Err(2)),
+        (b"once p() at", Err(2)),
+        (b"maybe p() at 1", Err(2)),
+        (b"maybe p() at 1 within", Err(2)),
+        (b"x := once", Err(2)),
+        (b"once 1() at 1", Err(2)),
+        (b"fork p", Err(2)),
+        (b"fork 1()", Err(2)),
+        (b"fork", Err(2)),
+        (b"return ()", Err(2)),
+        (b"return (1", Err(2)),
+        (b"signal", Err(2)),
+        (b"signal 1", Err(2)),
+        (b"signal n ()", Err(2)),
+        (b"sleep", Err(2)),
+        (b"sleep()", Err(2)),
+        (b"sleep 1", Err(2)),
+    ];
+    for (text, wanted) in table {
+        let read = statement(&rt, rt.alloc(), text)?;
+        assert_eq!(rt; read, wanted, "{}", text.escape_ascii());
+    }
+    Ok(())
+}
+
+#[test]
+fn refuses_each_body(rt: HostRuntime) -> Result<(), Fail> {
+    let table: [(&[u8], Result<(), u32>); 37] = [
+        (b"put_line()", Err(2)),
+        (b"put_line(\"a\"", Err(2)),
+        (b"f() except", Err(2)),
+        (b"f() except when end", Err(2)),
+        (b"f() except when a f() end", Err(2)),
+        (b"f() except when a: g()", Err(2)),
+        (b"f() except when a (x): end", Err(2)),
+        (b"f() except others end", Err(2)),
+        (b"f() except others: when a: end", Err(2)),
+        (b"f() resignal", Err(2)),
+        (b"f() resignal 1", Err(2)),
+        (b"f() resignal a,", Err(2)),
+        (b"if then end", Err(2)),
+        (b"if a end", Err(2)),
+        (b"if a then", Err(2)),
+        (b"if a then else else end", Err(2)),
+        (b"if a then elseif end", Err(2)),
+        (b"while do end", Err(2)),
+        (b"while a end", Err(2)),
+        (b"while a do", Err(2)),
+        (b"for i in int$from_to(1, 2) do end", Err(2)),
+        (b"for i: int int$from_to(1, 2) do end", Err(2)),
+        (b"for i: int in f() do end", Err(2)),
+        (b"for i: int in int$to(1, 2) do end", Err(2)),
+        (b"for i: int in int$from_to(1) do end", Err(2)),
+        (b"for i: int in int$from_to(1, 2) end", Err(2)),
+        (b"for i: int in array[int]$elements(a, b) do end", Err(2)),
+        (b"tagcase end", Err(2)),
+        (b"tagcase x tag: end", Err(2)),
+        (b"tagcase x tag a end", Err(2)),
+        (b"tagcase x others: tag a: end", Err(2)),
+        (b"tagcase x", Err(2)),
+        (b"begin", Err(2)),
+        (b"region do end", Err(2)),
+        (b"region l end", Err(2)),
+        (b"end", Err(2)),
+        (b"else", Err(2)),
+    ];
+    for (text, wanted) in table {
+        let read = statement(&rt, rt.alloc(), text)?;
+        assert_eq!(rt; read, wanted, "{}", text.escape_ascii());
+    }
+    Ok(())
+}
+
+#[test]
+fn reads_each_part(rt: HostRuntime) -> Result<(), Fail> {
+    let table: [(&[u8], Result<(), u32>); 22] = [
+        (b"", Ok(())),
+        (b"a = int", Ok(())),
+        (b"a = record[b: c]", Ok(())),
+        (b"nodevar a: int", Ok(())),
+        (b"nodevar a: int := 1", Ok(())),
+        (b"nodevar a: int := -1", Ok(())),
+        (b"nodevar a: bool := true", Ok(())),
+        (b"nodevar a: null := nil", Ok(())),
+        (b"nodevar a: char := 'b'", Ok(())),
+        (b"nodevar a: string := \"b\"", Ok(())),
+        (b"nodevar a: lock := lock$create()", Ok(())),
+        (b"nodevar a: semaphore := semaphore$create(3)", Ok(())),
+        (b"nodevar a: array[int] := array[int]$new()", Ok(())),
+        (b"a = proc () end a", Ok(())),
         (
-            b"a = proc ()\nput_line(\"",
-            b"x",
-            1024,
-            b"\")\nend a\nnode 1 is end",
-            Ok(1),
+            b"a = proc (b: int, c: d) returns (e) signals (f, g (int)) end a",
+            Ok(()),
         ),
         (
-            b"a = proc ()\nput_line(\"",
-            b"x",
-            1025,
-            b"\")\nend a\nnode 1 is end",
+            b"a = proc () signals (failure (string)) return end a",
+            Ok(()),
+        ),
+        (b"a = cluster is b rep = int end a", Ok(())),
+        (
+            b"a = cluster is b, c rep = array[int] b = proc () returns (cvt) return (rep$new()) end b c = proc (x: cvt) end c end a",
+            Ok(()),
+        ),
+        (b"node 1 is end", Ok(())),
+        (b"node 0 is end", Ok(())),
+        (
+            b"node 1 is export a export b start c() start d(1, -2, nil, true, 'a', \"b\") end",
+            Ok(()),
+        ),
+        (b"node 1 is end node 2 is end a = proc () end a", Ok(())),
+    ];
+    for (text, wanted) in table {
+        let read = program(&rt, rt.alloc(), text)?;
+        assert_eq!(rt; read, wanted, "{}", text.escape_ascii());
+    }
+    Ok(())
+}
+
+#[test]
+fn refuses_each_part(rt: HostRuntime) -> Result<(), Fail> {
+    let table: [(&[u8], Result<(), u32>); 42] = [
+        (b"a", Err(1)),
+        (b"a =", Err(1)),
+        (b"a =\n1", Err(2)),
+        (b"1", Err(1)),
+        (b"nodevar", Err(1)),
+        (b"nodevar a", Err(1)),
+        (b"nodevar a:", Err(1)),
+        (b"nodevar a: int :=", Err(1)),
+        (b"nodevar a: int := b", Err(1)),
+        (b"nodevar a: int := - true", Err(1)),
+        (b"nodevar a: lock := lock$new()", Err(1)),
+        (b"nodevar a: lock := lock$create(1)", Err(1)),
+        (b"nodevar a: semaphore := semaphore$create()", Err(1)),
+        (b"nodevar a: semaphore := semaphore$create(-1)", Err(1)),
+        (b"nodevar a: array[int] := array[int]$create()", Err(1)),
+        (b"a = proc end a", Err(1)),
+        (b"a = proc ( end a", Err(1)),
+        (b"a = proc (b) end a", Err(1)),
+        (b"a = proc (b: int,) end a", Err(1)),
+        (b"a = proc () returns int end a", Err(1)),
+        (b"a = proc () returns () end a", Err(1)),
+        (b"a = proc () signals () end a", Err(1)),
+        (b"a = proc () signals (f (int) end a", Err(1)),
+        (b"a = proc ()\nend b", Err(2)),
+        (b"a = proc ()\nend", Err(2)),
+        (b"a = proc ()\n", Err(1)),
+        (b"a = cluster is rep = int end a", Err(1)),
+        (b"a = cluster is b end a", Err(1)),
+        (b"a = cluster is b rep int end a", Err(1)),
+        (b"a = cluster is b rep = int\nend c", Err(2)),
+        (b"a = cluster is b rep = int c = int end a", Err(1)),
+        (b"node is end", Err(1)),
+        (b"node -1 is end", Err(1)),
+        (b"node 1 end", Err(1)),
+        (b"node 1 is", Err(1)),
+        (b"node 1 is start a end", Err(1)),
+        (b"node 1 is start a(b) end", Err(1)),
+        (b"node 1 is start a(1,) end", Err(1)),
+        (b"node 1 is export end", Err(1)),
+        (b"node 1 is a() end", Err(1)),
+        (b"node 1 is end end", Err(1)),
+        (b"end", Err(1)),
+    ];
+    for (text, wanted) in table {
+        let read = program(&rt, rt.alloc(), text)?;
+        assert_eq!(rt; read, wanted, "{}", text.escape_ascii());
+    }
+    Ok(())
+}
+
+#[test]
+fn reads_whole_programs(rt: HostRuntime) -> Result<(), Fail> {
+    for (name, text) in PROGRAMS {
+        assert_eq!(rt; program(&rt, rt.alloc(), text)?, Ok(()), "{name}");
+    }
+    no_text_has_two_trees();
+    Ok(())
+}
+
+/// `piece` so many times, `middle`, and `close` as many times, behind `before`, as statements.
+fn nested(
+    rt: &impl Abort,
+    alloc: Global,
+    way: &(&[u8], &[u8], &[u8], &[u8], usize),
+    more: usize,
+) -> Result<Result<(), u32>, Fail> {
+    let (before, piece, middle, close, count) = *way;
+    assert!(rt; count <= 200 && more <= 1);
+    let opened = repeated(alloc, before, piece, count + more, middle)?;
+    let whole = repeated(alloc, opened.as_slice(), close, count + more, b"")?;
+    statement(rt, alloc, whole.as_slice())
+}
+
+#[test]
+fn nests_200_deep(rt: HostRuntime) -> Result<(), Fail> {
+    let ways: [(&[u8], &[u8], &[u8], &[u8], usize); 30] = [
+        (b"x := ", b"-", b"1", b"", 198),
+        (b"x := ", b"~", b"a", b"", 198),
+        (b"x := 1", b"+1", b"", b"", 198),
+        (b"x := a", b"|b", b"", b"", 198),
+        (b"x := ", b"f(", b"1", b")", 198),
+        (b"x := ", b"t$op(", b"1", b")", 198),
+        (b"x := ", b"a[", b"1", b"]", 198),
+        (b"x := a", b".b", b"", b"", 198),
+        (b"x := a", b"[1]", b"", b"", 198),
+        (b"x := ", b"up(", b"1", b")", 198),
+        (b"x := ", b"t$[", b"1", b"]", 198),
+        (b"x := ", b"t${f: ", b"1", b"}", 198),
+        (b"x := ", b"(a = ", b"a", b")", 198),
+        (b"x := ", b"(a ~= ", b"a", b")", 99),
+        (b"x: ", b"array[", b"int", b"]", 198),
+        (b"x: ", b"record[a: ", b"int", b"]", 198),
+        (b"x: ", b"oneof[a: ", b"int", b"]", 198),
+        (b"", b"begin ", b"", b" end", 200),
+        (b"", b"if a then ", b"", b" end", 199),
+        (b"", b"if a then else ", b"", b" end", 199),
+        (b"", b"while a do ", b"", b" end", 199),
+        (b"", b"region a do ", b"", b" end", 199),
+        (b"", b"for i: t in t$elements(a) do ", b"", b" end", 199),
+        (b"", b"tagcase a tag b: ", b"", b" end", 199),
+        (b"", b"tagcase a others: ", b"", b" end", 199),
+        (b"f()", b" resignal a", b"", b"", 198),
+        (b"f()", b" except end", b"", b"", 198),
+        (b"", b"return except others: ", b"", b" end", 199),
+        (b"", b"f(", b"1", b")", 198),
+        (b"a", b".b", b".c := 1", b"", 198),
+    ];
+    for way in &ways {
+        assert_eq!(rt;
+            nested(&rt, rt.alloc(), way, 0)?,
+            Ok(()),
+            "{}",
+            way.1.escape_ascii()
+        );
+        assert_eq!(rt;
+            nested(&rt, rt.alloc(), way, 1)?,
             Err(2),
-        ),
-        (
-            b"a = proc ()\n",
-            b"put_line(\"\")\n",
-            80000,
-            b"end a\nnode 1 is end",
-            Ok(80000),
-        ),
-        (b"", b"(", 1048576, b"", Err(1)),
-        (b"node 1 is end", b" ", 1048563, b"", Ok(0)),
-        (b"", b"a ", 524288, b"", Err(1)),
-        (b"node ", b"9", 1048571, b"", Err(1)),
+            "{}",
+            way.1.escape_ascii()
+        );
+    }
+    Ok(())
+}
+
+#[test]
+fn reads_long_texts(rt: HostRuntime) -> Result<(), Fail> {
+    let table: [(&[u8], &[u8], usize, &[u8], Result<(), u32>); 9] = [
+        (b"x := ", b"(", 2000, b"1", Err(2)),
+        (b"x := a", b"+a", 2000, b"", Err(2)),
+        (b"", b"f()\n", 2000, b"return", Ok(())),
+        (b"f(1", b", 1", 2000, b")", Ok(())),
+        (b"x: record[a: int", b", b: int", 2000, b"]", Ok(())),
+        (b"", b"(", 2000, b"", Err(2)),
+        (b"", b"begin ", 2000, b"", Err(2)),
+        (b"", b"a ", 2000, b"", Err(2)),
+        (b"x := ", b"9", 18, b"", Ok(())),
     ];
     for (before, piece, count, behind, wanted) in table {
         let text = repeated(rt.alloc(), before, piece, count, behind)?;
-        assert_eq!(rt;
-            answer(&rt, rt.alloc(), text.as_slice()),
-            wanted,
-            "{count} times"
-        );
+        let read = statement(&rt, rt.alloc(), text.as_slice())?;
+        assert_eq!(rt; read, wanted, "{count} times {}", piece.escape_ascii());
     }
-    for (count, wanted) in [(100000, Ok(1)), (99999, Err(3))] {
-        let opened = repeated(rt.alloc(), open, b"(", 100000, b"\"x\"")?;
-        let text = repeated(rt.alloc(), opened.as_slice(), b")", count, b")")?;
-        let whole = repeated(rt.alloc(), text.as_slice(), b"", 0, close)?;
-        assert_eq!(rt;
-            answer(&rt, rt.alloc(), whole.as_slice()),
-            wanted,
-            "{count} closed"
-        );
-    }
-    let name = repeated(rt.alloc(), b"", b"a", 64, b"")?;
-    let begun = repeated(rt.alloc(), name.as_slice(), b"", 0, b" = proc () end ")?;
-    let routine = repeated(
-        rt.alloc(),
-        begun.as_slice(),
-        name.as_slice(),
-        1,
-        b" node 1 is end",
-    )?;
-    assert_eq!(rt; answer(&rt, rt.alloc(), routine.as_slice()), Ok(0));
+    let opened = repeated(rt.alloc(), b"x := ", b"(", 2000, b"1")?;
+    let closed = repeated(rt.alloc(), opened.as_slice(), b")", 2000, b"")?;
+    assert_eq!(rt; statement(&rt, rt.alloc(), closed.as_slice())?, Ok(()));
     Ok(())
 }
 
 #[test]
 fn reads_the_lines_of_hello(rt: HostRuntime) -> Result<(), Fail> {
     assert!(rt; HELLO.len() <= 1048576);
-    let program = read_program(rt.alloc(), HELLO)?;
+    let found = tokens(rt.alloc(), HELLO)?;
+    let program = read_program(rt.alloc(), HELLO, found.as_slice())?;
     match (program.routines.as_slice(), program.nodes.as_slice()) {
         ([routine], [node]) => {
             assert_eq!(rt;

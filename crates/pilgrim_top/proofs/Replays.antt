@@ -1,6 +1,6 @@
 -- What follows of how a replay ends.
 use Rattle.std.proofs.Common.{◌≡◌, ◌≢◌, ◌⊎◌, ◌<◌, inl, inr, ℕ, List, [], ◌++◌, Option, Result, Ok, Err, refl, sym, ◌∙◌, subst, arith, append-nil, string_bytes, ap}
-use Rattle.clu_tree.specs.Typed.{IsAccepted}
+use Rattle.clu_reader.specs.Accepted.{IsAccepted}
 use Rattle.clu_tree.specs.declared.program.Program.{Program}
 use Rattle.world_types.specs.declared.effects.Entry.{Entry}
 use Rattle.world_rules.specs.Laws.{ErasingLaws, FollowingLaws, PlainLaw}

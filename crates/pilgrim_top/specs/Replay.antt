@@ -1,6 +1,6 @@
 -- How a replay may end.
 use Rattle.std.specs.Prelude.{◌≡◌, ◌<◌, ◌≤◌, ℕ, List, [], ◌∷◌, ◌++◌, length, codes, decimal, Option, Result, Ok, Err}
-use Rattle.clu_tree.specs.Typed.{IsAccepted}
+use Rattle.clu_reader.specs.Accepted.{IsAccepted}
 use Rattle.clu_tree.specs.declared.program.Program.{Program}
 use Rattle.world_types.specs.declared.effects.Entry.{Entry}
 use Rattle.world_rules.specs.Laws.{RunsPlainly}

@@ -1,6 +1,6 @@
 -- How a run of a command line may end.
 use Rattle.std.specs.Prelude.{◌≡◌, ◌⊎◌, ℕ, List, [], ◌∷◌, ◌++◌, length, codes, Option, Result, Ok, Err, string_bytes}
-use Rattle.clu_tree.specs.Typed.{IsAccepted}
+use Rattle.clu_reader.specs.Accepted.{IsAccepted}
 use Rattle.clu_tree.specs.declared.program.Program.{Program}
 use Rattle.world_types.specs.declared.effects.Entry.{Entry}
 use Rattle.world_rules.specs.Transcript.{transcript}

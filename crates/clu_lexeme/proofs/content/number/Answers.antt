@@ -15,8 +15,7 @@ pub loop-digit-preserved : goal.loop-digit-preserved
 loop-digit-preserved c =
     let step = at_drop_more (number_from c.loop-digit.number) c.args.digits.now c.loop-digit.digit-index 0 (omega arith) in
     let reaches = number_from-reaches c.loop-digit.number c.loop-digit.digit-index c.args.digits.now (omega arith) in
-    let next : c.loop-digit.number * 10 + c.from.result ≡ 10 * c.loop-digit.number + (get_or c.args.digits.now c.loop-digit.digit-index 0 - 48) = omega (arith, c.from.ensures) in
-    (
+    let next : c.loop-digit.number * 10 + c.from.result ≡ 10 * c.loop-digit.number + (get_or c.args.digits.now c.loop-digit.digit-index 0 - 48) = omega (arith, c.from.ensures) in (
       ap (λ n. number_from n (drop (c.loop-digit.digit-index + 1) c.args.digits.now)) next ∙ (sym step ∙ c.loop-digit.invariant.0),
       omega (arith, reaches, next, c.loop-digit.invariant.0, c.requires.in_range),
     )

@@ -27,10 +27,11 @@ loop-turn-preserved c =
 
 pub returns : goal.returns
 returns c = elim c.loop-turn-test.branch [
-    else-loop-turn-test w ↦ many_out parts.at_node_part parts.node_part (suc c.left-turn-end.result) c.loop-turn._turn c.loop-turn.found c.loop-turn.cursor c.loop-turn.invariant (omega arith)
+  | else-loop-turn-test w ↦ many_out parts.at_node_part parts.node_part (suc c.left-turn-end.result) c.loop-turn._turn c.loop-turn.found c.loop-turn.cursor c.loop-turn.invariant (omega arith)
   | then-loop-turn-test+else-not-at_part+in_ok-next+in_ok-push+else-turn-turn-end w ↦
       let x = w.in_ok-next.next in
       let all = c.loop-turn.found ++ x ∷ [] in
       many_out parts.at_node_part parts.node_part (suc c.left-turn-end.result) (c.loop-turn._turn + 1) all _
-        (many_more parts.at_node_part parts.node_part (suc c.left-turn-end.result) c.loop-turn._turn c.loop-turn.found c.loop-turn.cursor c.loop-turn.invariant x _ all (omega arith) (sym w.at_part.ensures ∙ w.if-not-at_part.false) w.in_ok-next.ensures refl)
-        (omega arith) ]
+      (many_more parts.at_node_part parts.node_part (suc c.left-turn-end.result) c.loop-turn._turn c.loop-turn.found c.loop-turn.cursor c.loop-turn.invariant x _ all (omega arith) (sym w.at_part.ensures ∙ w.if-not-at_part.false) w.in_ok-next.ensures refl)
+      (omega arith)
+]

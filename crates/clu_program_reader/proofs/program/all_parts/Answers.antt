@@ -15,9 +15,9 @@ returns-then-left-eq0 c =
 pub returns-in_err-next : goal.returns-in_err-next
 returns-in_err-next c =
     let e : plan.program c.args.cursor.now ≡ with_rest c.loop-turn.program (plan.parts_after (plan.parts 200 (c.left-turn-end.result - (c.loop-turn._turn + 1))) (plan.part 200 c.loop-turn.cursor)) =
-        c.loop-turn.invariant.0
-        ∙ (turn_of (λ n. with_rest c.loop-turn.program (plan.parts 200 n c.loop-turn.cursor)) c.left-turn-end.result c.loop-turn._turn c.loop-turn-test.true
-        ∙ parts_step c.loop-turn.program (c.left-turn-end.result - (c.loop-turn._turn + 1)) c.loop-turn.cursor (λ h. c.if-left-eq0.false (c.left.ensures ∙ h))) in
+    c.loop-turn.invariant.0
+    ∙ (turn_of (λ n. with_rest c.loop-turn.program (plan.parts 200 n c.loop-turn.cursor)) c.left-turn-end.result c.loop-turn._turn c.loop-turn-test.true
+    ∙ parts_step c.loop-turn.program (c.left-turn-end.result - (c.loop-turn._turn + 1)) c.loop-turn.cursor (λ h. c.if-left-eq0.false (c.left.ensures ∙ h))) in
     first_of (search rules, grind (arith, common_steps))
 
 pub add-requires-clause-few : goal.add-requires-clause-few
@@ -28,14 +28,13 @@ pub loop-turn-preserved : goal.loop-turn-preserved
 loop-turn-preserved c =
     let few = part_has_few c.loop-turn.cursor c.part.new.cursor (part_view c.in_ok-next.next) c.in_ok-next.ensures in
     let grown = routines_grow c.loop-turn.program (part_view c.in_ok-next.next) in
-    rw c.in_ok-add.ensures
-        (
-          c.loop-turn.invariant.0
-              ∙ (turn_of (λ n. with_rest c.loop-turn.program (plan.parts 200 n c.loop-turn.cursor)) c.left-turn-end.result c.loop-turn._turn c.loop-turn-test.true
-              ∙ parts_more c.loop-turn.program (c.left-turn-end.result - (c.loop-turn._turn + 1)) c.loop-turn.cursor c.part.new.cursor (part_view c.in_ok-next.next) c.in_ok-next.ensures
-                  (λ h. c.if-left-eq0.false (c.left.ensures ∙ h))),
-          omega (arith, few, grown, c.loop-turn.invariant.1),
-        )
+    rw c.in_ok-add.ensures (
+      c.loop-turn.invariant.0
+          ∙ (turn_of (λ n. with_rest c.loop-turn.program (plan.parts 200 n c.loop-turn.cursor)) c.left-turn-end.result c.loop-turn._turn c.loop-turn-test.true
+          ∙ parts_more c.loop-turn.program (c.left-turn-end.result - (c.loop-turn._turn + 1)) c.loop-turn.cursor c.part.new.cursor (part_view c.in_ok-next.next) c.in_ok-next.ensures
+          (λ h. c.if-left-eq0.false (c.left.ensures ∙ h))),
+      omega (arith, few, grown, c.loop-turn.invariant.1),
+    )
 
 pub returns-then-left-eq0-2 : goal.returns-then-left-eq0-2
 returns-then-left-eq0-2 c =

@@ -28,10 +28,11 @@ loop-turn-preserved c =
 
 pub returns : goal.returns
 returns c = elim c.loop-turn-test.branch [
-    else-loop-turn-test w ↦ many_out parts.goes_on (plan.routine 200) (suc c.left-turn-end.result) c.loop-turn._turn c.loop-turn.found c.loop-turn.cursor c.loop-turn.invariant (omega arith)
+  | else-loop-turn-test w ↦ many_out parts.goes_on (plan.routine 200) (suc c.left-turn-end.result) c.loop-turn._turn c.loop-turn.found c.loop-turn.cursor c.loop-turn.invariant (omega arith)
   | then-loop-turn-test+else-not-goes_on+in_ok-next+in_ok-push+else-turn-turn-end w ↦
       let x = w.in_ok-next.next in
       let all = c.loop-turn.found ++ x ∷ [] in
       many_out parts.goes_on (plan.routine 200) (suc c.left-turn-end.result) (c.loop-turn._turn + 1) all _
-        (many_more parts.goes_on (plan.routine 200) (suc c.left-turn-end.result) c.loop-turn._turn c.loop-turn.found c.loop-turn.cursor c.loop-turn.invariant x _ all (omega arith) (sym w.goes_on.ensures ∙ w.if-not-goes_on.false) w.in_ok-next.ensures refl)
-        (omega arith) ]
+      (many_more parts.goes_on (plan.routine 200) (suc c.left-turn-end.result) c.loop-turn._turn c.loop-turn.found c.loop-turn.cursor c.loop-turn.invariant x _ all (omega arith) (sym w.goes_on.ensures ∙ w.if-not-goes_on.false) w.in_ok-next.ensures refl)
+      (omega arith)
+]

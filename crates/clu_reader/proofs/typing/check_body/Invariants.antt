@@ -1,6 +1,6 @@
 use Rattle.std.proofs.Common.{ℕ, ◌<◌, get_or}
-use Rattle.clu_tree.specs.Typed.{IsTypedStmt}
 use Rattle.clu_tree.specs.declared.tree.Stmt.{Stmt}
+use Rattle.clu_tree.specs.Typed.{IsTypedStmt}
 use Rattle.clu_reader.proofs.typing.check_body.Given as goal
 
 abbrev pub invariant-loop-statement : goal.invariant-loop-statement

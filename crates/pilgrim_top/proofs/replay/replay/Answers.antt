@@ -1,5 +1,5 @@
 use Rattle.std.proofs.Common.{◌≡◌, ◌<◌, ◌≤◌, ℕ, List, refl, sym, subst, arith, length}
-use Rattle.clu_tree.specs.Typed.{IsAccepted}
+use Rattle.clu_reader.specs.Accepted.{IsAccepted}
 use Rattle.clu_tree.specs.declared.program.Program.{Program}
 use Rattle.pilgrim_top.specs.Replay.{file_lacks, file_read, most_bytes, not_accepted, ran, ran_out, refused, refused_text, script_lacks, too_long, unscripted}
 use Rattle.pilgrim_top.specs.Script.{RunsScript}

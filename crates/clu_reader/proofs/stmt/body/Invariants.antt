@@ -1,9 +1,0 @@
-use Rattle.std.proofs.Common.{length}
-use Rattle.clu_reader.proofs.Reading.{Bodies}
-use Rattle.clu_reader.proofs.stmt.body.Given as goal
-
-abbrev pub invariant-loop-alloc : goal.invariant-loop-alloc
-invariant-loop-alloc l = Bodies l.initial.cursor l.found l.cursor
-
-abbrev pub decreases-loop-alloc : goal.decreases-loop-alloc
-decreases-loop-alloc l = length l.cursor
