@@ -1,3 +1,5 @@
+ghost use Rattle.std.specs.Prelude.{◌≤◌};
+
 use crate::body;
 use clu_expr_reader::{Cursor, ReadFault};
 use clu_tree::{Key, Lexeme, Text};
