@@ -1,3 +1,2 @@
-mod Judges
 mod Few
 mod Whole
