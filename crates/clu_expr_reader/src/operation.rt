@@ -7,8 +7,7 @@ ghost use Rattle.clu_expr_reader.specs.Gives.{Gives};
 
 use crate::cursor::Cursor;
 use crate::fault::ReadFault;
-use crate::key::word_of;
-use clu_tree::{Key, Lexeme, Text};
+use clu_tree::{Key, Lexeme, Text, word_of};
 use std::alloc::Global;
 
 /// Reads the name of an operation, which may be a reserved word, and the bracket that opens its arguments.

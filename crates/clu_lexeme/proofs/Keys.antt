@@ -5,9 +5,8 @@ use Rattle.std.proofs.lemmas.Bool.{cases_Bool, cond-true, cond-false}
 use Rattle.std.proofs.lemmas.Slice.Eq.{bytes_eq-Decides}
 use Rattle.clu_tree.specs.declared.lexeme.Key.{Key}
 use Rattle.clu_tree.specs.declared.lexeme.Key.TheVariants as key
-use Rattle.clu_tree.specs.Lexical.{word_of}
+use Rattle.clu_tree.specs.Lexical.{symbol_of, word_of}
 use Rattle.clu_text.specs.Spelling.{symbols, IsSymbol}
-use Rattle.clu_lexeme.specs.Lexemes.{symbol_of}
 use Rattle.clu_lexeme.specs.Table.{first_key, is_spelled, word_key, symbol_key}
 use Rattle.clu_lexeme.specs.declared.table.TheConstants.{RESERVED, SYMBOLS}
 

@@ -1,6 +1,6 @@
 -- A token is one thing to the grammar.
 use Rattle.std.proofs.Common.{◌≡◌, ℕ, List, [], ◌∷◌, Some, refl, sym, ap, ◌∙◌, subst, arith}
-use Rattle.clu_tree.specs.Lexical.{word_of}
+use Rattle.clu_tree.specs.Lexical.{symbol_of, word_of}
 use Rattle.clu_tree.specs.declared.lexeme.Key.{Key}
 use Rattle.clu_tree.specs.declared.lexeme.Lexeme.{Lexeme}
 use Rattle.clu_tree.specs.declared.lexeme.Lexeme.TheVariants as lexeme
@@ -9,7 +9,7 @@ use Rattle.clu_text.specs.declared.token.TokenKind.{TokenKind}
 use Rattle.clu_text.specs.declared.token.TokenKind.TheVariants as kind
 use Rattle.clu_text.specs.Spelling.{HasParts}
 use Rattle.clu_text.specs.Tokens.{spelling_of}
-use Rattle.clu_lexeme.specs.Lexemes.{Denotes, AreLexemes, name, reserved, int, char, string, symbol, none, more, symbol_of}
+use Rattle.clu_lexeme.specs.Lexemes.{Denotes, AreLexemes, name, reserved, int, char, string, symbol, none, more}
 use Rattle.clu_lexeme.proofs.Contents.{one_content}
 use Rattle.clu_lexeme.proofs.Keys.{word_of-found, symbol_of-found}
 

@@ -1,8 +1,7 @@
 -- What tokens are to the grammar.
-use Rattle.std.specs.Prelude.{ℕ, ◌≡◌, ◌≢◌, List, [], ◌∷◌, Option, Some, None, codes, pos}
-use Rattle.clu_tree.specs.Lexical.{word_of}
+use Rattle.std.specs.Prelude.{ℕ, ◌≡◌, ◌≢◌, List, [], ◌∷◌, Some, pos}
+use Rattle.clu_tree.specs.Lexical.{symbol_of, word_of}
 use Rattle.clu_tree.specs.declared.lexeme.Key.{Key}
-use Rattle.clu_tree.specs.declared.lexeme.Key.TheVariants as key
 use Rattle.clu_tree.specs.declared.lexeme.Lexeme.{Lexeme}
 use Rattle.clu_tree.specs.declared.lexeme.Lexeme.TheVariants as lexeme
 use Rattle.clu_text.specs.declared.token.Token.{Token}
@@ -10,36 +9,6 @@ use Rattle.clu_text.specs.declared.token.TokenKind.{TokenKind}
 use Rattle.clu_text.specs.declared.token.TokenKind.TheVariants as kind
 use Rattle.clu_text.specs.Spelling.{HasParts, int_value}
 use Rattle.clu_text.specs.Tokens.{spelling_of}
-
--- how the symbols are spelled; reserved words have no symbol
-abbrev pub symbol_of : Key → Option (List ℕ)
-symbol_of key.Becomes = Some (codes ":=")
-symbol_of key.Dollar = Some (codes "$")
-symbol_of key.LParen = Some (codes "(")
-symbol_of key.RParen = Some (codes ")")
-symbol_of key.LBracket = Some (codes "[")
-symbol_of key.RBracket = Some (codes "]")
-symbol_of key.LBrace = Some (codes "{")
-symbol_of key.RBrace = Some (codes "}")
-symbol_of key.Comma = Some (codes ",")
-symbol_of key.Dot = Some (codes ".")
-symbol_of key.Colon = Some (codes ":")
-symbol_of key.Equals = Some (codes "=")
-symbol_of key.Differs = Some (codes "~=")
-symbol_of key.Less = Some (codes "<")
-symbol_of key.AtMost = Some (codes "<=")
-symbol_of key.More = Some (codes ">")
-symbol_of key.AtLeast = Some (codes ">=")
-symbol_of key.Plus = Some (codes "+")
-symbol_of key.Minus = Some (codes "-")
-symbol_of key.Star = Some (codes "*")
-symbol_of key.Slash = Some (codes "/")
-symbol_of key.Slashes = Some (codes "//")
-symbol_of key.Bars = Some (codes "||")
-symbol_of key.Ampersand = Some (codes "&")
-symbol_of key.Bar = Some (codes "|")
-symbol_of key.Tilde = Some (codes "~")
-symbol_of _ = None
 
 -- What a token of this kind and spelling is, on its line.
 pub data Denotes (line : ℕ) : TokenKind → List ℕ → Lexeme → Type 0 where

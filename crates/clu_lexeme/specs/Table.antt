@@ -1,8 +1,7 @@
 -- Looking up a key by its spelling.
 use Rattle.std.specs.Prelude.{ℕ, Bool, false, List, [], ◌∷◌, Option, Some, None, if◌then◌else◌, bytes_eq}
 use Rattle.clu_tree.specs.declared.lexeme.Key.{Key}
-use Rattle.clu_tree.specs.Lexical.{word_of}
-use Rattle.clu_lexeme.specs.Lexemes.{symbol_of}
+use Rattle.clu_tree.specs.Lexical.{symbol_of, word_of}
 use Rattle.clu_lexeme.specs.declared.table.TheConstants.{RESERVED, SYMBOLS}
 
 -- the spelling is this one

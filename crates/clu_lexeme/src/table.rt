@@ -1,13 +1,11 @@
 //! Keys by their spellings.
 
 ghost use Rattle.std.specs.Prelude.{◌≡◌};
-ghost use Rattle.std.specs.Option.{option_copied};
 ghost use Rattle.clu_tree.specs.Lexical as lexical;
-ghost use Rattle.clu_lexeme.specs.Lexemes as lexemes;
 ghost use Rattle.clu_lexeme.specs.Table.{is_spelled};
 ghost use Rattle.clu_lexeme.specs.Table as table;
 
-use clu_tree::Key;
+use clu_tree::{Key, symbol_of, word_of};
 
 /// The keys of the reserved words, in the order of the alphabet.
 const RESERVED: [Key; 55] = [
@@ -98,105 +96,6 @@ const SYMBOLS: [Key; 26] = [
     Key::Tilde,
 ];
 
-/// The spelling of a reserved word. A symbol has none.
-fn word_of(key: Key) -> Option<&'static [u8]>
-    ensures { option_copied result ≡ lexical.word_of key }
-{
-    match key {
-        Key::Array => Some(b"array"),
-        Key::At => Some(b"at"),
-        Key::Begin => Some(b"begin"),
-        Key::Bool => Some(b"bool"),
-        Key::Cand => Some(b"cand"),
-        Key::Char => Some(b"char"),
-        Key::Cluster => Some(b"cluster"),
-        Key::Cor => Some(b"cor"),
-        Key::Cvt => Some(b"cvt"),
-        Key::Do => Some(b"do"),
-        Key::Down => Some(b"down"),
-        Key::Else => Some(b"else"),
-        Key::Elseif => Some(b"elseif"),
-        Key::End => Some(b"end"),
-        Key::Except => Some(b"except"),
-        Key::Export => Some(b"export"),
-        Key::False => Some(b"false"),
-        Key::For => Some(b"for"),
-        Key::Fork => Some(b"fork"),
-        Key::If => Some(b"if"),
-        Key::In => Some(b"in"),
-        Key::Int => Some(b"int"),
-        Key::Is => Some(b"is"),
-        Key::Lock => Some(b"lock"),
-        Key::Maybe => Some(b"maybe"),
-        Key::Nil => Some(b"nil"),
-        Key::Node => Some(b"node"),
-        Key::Nodevar => Some(b"nodevar"),
-        Key::Now => Some(b"now"),
-        Key::Null => Some(b"null"),
-        Key::Once => Some(b"once"),
-        Key::Oneof => Some(b"oneof"),
-        Key::Others => Some(b"others"),
-        Key::Proc => Some(b"proc"),
-        Key::PutLine => Some(b"put_line"),
-        Key::Record => Some(b"record"),
-        Key::Region => Some(b"region"),
-        Key::Rep => Some(b"rep"),
-        Key::Resignal => Some(b"resignal"),
-        Key::Return => Some(b"return"),
-        Key::Returns => Some(b"returns"),
-        Key::Semaphore => Some(b"semaphore"),
-        Key::Signal => Some(b"signal"),
-        Key::Signals => Some(b"signals"),
-        Key::Sleep => Some(b"sleep"),
-        Key::Start => Some(b"start"),
-        Key::String => Some(b"string"),
-        Key::Tag => Some(b"tag"),
-        Key::Tagcase => Some(b"tagcase"),
-        Key::Then => Some(b"then"),
-        Key::True => Some(b"true"),
-        Key::Up => Some(b"up"),
-        Key::When => Some(b"when"),
-        Key::While => Some(b"while"),
-        Key::Within => Some(b"within"),
-        _ => None,
-    }
-}
-
-/// The spelling of a symbol. A reserved word has none.
-fn symbol_of(key: Key) -> Option<&'static [u8]>
-    ensures { option_copied result ≡ lexemes.symbol_of key }
-{
-    match key {
-        Key::Becomes => Some(b":="),
-        Key::Dollar => Some(b"$"),
-        Key::LParen => Some(b"("),
-        Key::RParen => Some(b")"),
-        Key::LBracket => Some(b"["),
-        Key::RBracket => Some(b"]"),
-        Key::LBrace => Some(b"{"),
-        Key::RBrace => Some(b"}"),
-        Key::Comma => Some(b","),
-        Key::Dot => Some(b"."),
-        Key::Colon => Some(b":"),
-        Key::Equals => Some(b"="),
-        Key::Differs => Some(b"~="),
-        Key::Less => Some(b"<"),
-        Key::AtMost => Some(b"<="),
-        Key::More => Some(b">"),
-        Key::AtLeast => Some(b">="),
-        Key::Plus => Some(b"+"),
-        Key::Minus => Some(b"-"),
-        Key::Star => Some(b"*"),
-        Key::Slash => Some(b"/"),
-        Key::Slashes => Some(b"//"),
-        Key::Bars => Some(b"||"),
-        Key::Ampersand => Some(b"&"),
-        Key::Bar => Some(b"|"),
-        Key::Tilde => Some(b"~"),
-        _ => None,
-    }
-}
-
 /// Whether the reserved word is spelled so.
 fn is_word(key: Key, spelling: &[u8]) -> bool
     ensures { result ≡ is_spelled (lexical.word_of key) spelling.now }
@@ -209,7 +108,7 @@ fn is_word(key: Key, spelling: &[u8]) -> bool
 
 /// Whether the symbol is spelled so.
 fn is_symbol(key: Key, spelling: &[u8]) -> bool
-    ensures { result ≡ is_spelled (lexemes.symbol_of key) spelling.now }
+    ensures { result ≡ is_spelled (lexical.symbol_of key) spelling.now }
 {
     match symbol_of(key) {
         Some(symbol) => spelling == symbol,
@@ -231,7 +130,7 @@ fn first_word(keys: &[Key], spelling: &[u8]) -> Option<Key>
 
 /// The first of the keys whose symbol is spelled so.
 fn first_symbol(keys: &[Key], spelling: &[u8]) -> Option<Key>
-    ensures { result ≡ table.first_key lexemes.symbol_of keys.now spelling.now }
+    ensures { result ≡ table.first_key lexical.symbol_of keys.now spelling.now }
 {
     for key in keys {
         if is_symbol(*key, spelling) {

@@ -1,3 +1,2 @@
 pub mod Lexical
-pub mod Grammar
 pub mod Typed

@@ -1,6 +1,5 @@
 -- The typing rules of programs that were read.
 use Rattle.std.specs.Prelude.{ℕ, suc, ◌≤◌, ◌≡◌, List, [], ◌∷◌, length, None, pos, All, Any}
-use Rattle.clu_tree.specs.Grammar.{Reads}
 use Rattle.clu_tree.specs.declared.value.Value.{Value}
 use Rattle.clu_tree.specs.declared.value.Value.TheVariants as v
 use Rattle.clu_tree.specs.declared.shape.Shape.{Shape}
@@ -84,7 +83,3 @@ pub record IsTyped (program : Program) : Type 0 where
   pub one_node : length program.nodes ≡ 1
   pub numbered : AreNumbered 1 program.nodes
   pub nodes : All (IsTypedNode program) program.nodes
-
--- The text is accepted as the program: it reads as the program, and the program is typed.
-abbrev pub IsAccepted : List ℕ → Program → Type 0
-IsAccepted text program = Reads text program × IsTyped program

@@ -1,4 +1,4 @@
-//! Tokens and syntax trees of programs, as plain data, and the relations that say how a text reads as a tree.
+//! Tokens and syntax trees of programs, as plain data, and the typing rules of the part that runs.
 #![tactic(auto)]
 
 pub mod copies;
@@ -7,6 +7,7 @@ pub mod make;
 mod op;
 mod program;
 mod shape;
+mod spelling;
 mod text;
 mod tree;
 mod value;
@@ -15,6 +16,7 @@ pub use lexeme::{Key, Lexeme};
 pub use op::Op;
 pub use program::{Cluster, Equate, Initial, NodeDecl, NodePart, NodeVar, Program, Routine};
 pub use shape::{Listed, Named, Shape};
+pub use spelling::{symbol_of, word_of};
 pub use text::Text;
 pub use tree::{
     Arm, Expr, FieldInit, Handlers, Infix, Iter, Meant, Prefix, Remote, Stmt, TagArm, Target, When,

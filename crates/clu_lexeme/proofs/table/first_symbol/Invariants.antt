@@ -1,5 +1,5 @@
 use Rattle.std.proofs.Common.{◌≡◌, drop}
-use Rattle.clu_lexeme.specs.Lexemes.{symbol_of}
+use Rattle.clu_tree.specs.Lexical.{symbol_of}
 use Rattle.clu_lexeme.specs.Table.{first_key}
 use Rattle.clu_lexeme.proofs.table.first_symbol.Given as goal
 
