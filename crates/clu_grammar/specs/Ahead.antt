@@ -29,6 +29,7 @@ assigns (suc t) (lexeme.Key key.Dot _ ∷ lexeme.Name _ _ ∷ r) = assigns t r
 assigns (suc t) (lexeme.Key key.LBracket _ ∷ m) = assigns t (skip zero m)
 assigns (suc t) ts = becomes ts
 
--- behind an opening bracket: does it begin the target of an assignment?
+-- Behind an opening bracket: does it begin the target of an assignment? Where no `.id` or `[..]` follows the bracket that
+-- closes, nothing reads either way, since brackets alone are no target.
 abbrev pub is_target : Tokens → Bool
 is_target ts = assigns (length ts) (skip zero ts)

@@ -1,5 +1,5 @@
-//! One constructor for each alternative of the grammar. Each answers exactly the node of its arguments, and fails only
-//! where it needs memory for a node inside.
+//! One constructor for each alternative of the grammar that has parts; the types of one word are the variants of `Shape`.
+//! Each answers exactly the node of its arguments, and fails only where it needs memory for a node inside.
 
 mod exprs;
 mod programs;
@@ -10,7 +10,10 @@ pub use exprs::{
     array_literal, binary, bool_literal, call, char_literal, down, field, field_init, index,
     int_literal, name, nil, now, operation, record_literal, string_literal, unary, up,
 };
-pub use programs::{cluster, equate, export, node, node_var, program, routine, start};
+pub use programs::{
+    cluster, equate, export, first_empty, first_literal, first_lock, first_semaphore, node,
+    node_var, program, routine, start,
+};
 pub use shapes::{array_of, listed, named, named_type, oneof_of, record_of};
 pub use stmts::{
     arm, assign, begin, call_stmt, declare, elements, except, for_do, fork, from_to, handlers,

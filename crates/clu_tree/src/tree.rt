@@ -47,7 +47,7 @@ pub enum Prefix {
     Not,
 }
 
-/// An expression, with the line of its first token behind a bracket. Brackets leave no node.
+/// An expression, with the line of its first token. Brackets leave no node, and what stood in them keeps its line.
 #[cycle(expr)]
 #[derive(Drop)]
 pub enum Expr {

@@ -47,7 +47,7 @@ use Rattle.machine_rules.specs.declared.frame.Frame.{Frame}
 use Rattle.machine_rules.specs.declared.act.Act.{Act}
 use Rattle.machine_rules.specs.declared.act.Act.TheVariants as act
 use Rattle.machine_rules.specs.World.{World, Next, gives, goes, store_of}
-use Rattle.machine_rules.specs.Frames.{at_line, ends, found, held, is_held, leaves, with}
+use Rattle.machine_rules.specs.Frames.{assign, at_line, ends, found, held, is_held, leaves, with}
 use Rattle.machine_rules.specs.Exceptions.{Taken, Lets, Handles, Passes, Landing, Nowhere, Lands, Resignals, behind, caught, handled, fails, failure, landing, lands, lands_at, leaving, raises, signal, taken, unwind}
 use Rattle.machine_rules.specs.Operands.{on_array, on_bool, on_int, on_ref, on_str, one_at, taking, taking2, taking3, taking_args, taking_last}
 use Rattle.machine_rules.specs.Operations as ops
@@ -490,6 +490,14 @@ enters_keeps w f fs work k r args values =
     if_keeps w (all_of work fs) (ltb (length fs) 999) (goes w (row.entry k r args ∷ with f work values ∷ fs)) (fails w (codes "frame limit") f fs work)
     (ap (λ (locks : List Addr). locks ++ all_of work fs) (leaves_body r.body (i.Fall ∷ []))) (raises_keeps w (failure (codes "frame limit")) f fs work)
 
+sets_local_keeps : (w : World) (f : Frame) (fs : List Frame) (work : List Item) (values : List Value) (vars : Option (List Var)) → Keeps w (all_of work fs) (row.sets_local w f fs work values vars)
+sets_local_keeps w f fs work values None = tt
+sets_local_keeps w f fs work values (Some vars) = refl
+
+sets_node_keeps : (w : World) (f : Frame) (fs : List Frame) (work : List Item) (values : List Value) (k : ℕ) (v : Value) (old : Option (Option Value)) → Keeps w (all_of work fs) (row.sets_node w f fs work values k v old)
+sets_node_keeps w f fs work values k v None = tt
+sets_node_keeps w f fs work values k v (Some old) = refl
+
 item_keeps : (w : World) (f : Frame) (fs : List Frame) (work : List Item) (item : Item) → Keeps w (all_of (item ∷ work) fs) (row.row_at w f fs work item)
 item_keeps w f fs work (i.Eval e) = eval_keeps w f fs work (out-Expr e)
 item_keeps w f fs work (i.Apply o) = apply_keeps w o f fs work
@@ -502,8 +510,8 @@ item_keeps w f fs work (i.Pick or e) = taking_keeps w _ f.values _ (λ v values.
 item_keeps w f fs work (i.Enter k) = taking_args_keeps w (all_of work fs) (slice_get w.program.routines k) f.values (row.enters w f fs work k) (enters_keeps w f fs work k)
 item_keeps w f fs work i.Fall = fall_keeps w fs work (slice_get w.program.routines f.routine)
 item_keeps w f fs work (i.Exec s) = exec_keeps w (at_line f (row.line_of f.line (out-Stmt s))) fs work (out-Stmt s)
-item_keeps w f fs work (i.Assign x) = taking_keeps w _ f.values _ (λ v values. refl)
-item_keeps w f fs work (i.AssignNode k) = taking_keeps w _ f.values _ (λ v values. refl)
+item_keeps w f fs work (i.Assign x) = taking_keeps w _ f.values _ (λ v values. sets_local_keeps w f fs work values (assign x v f.vars))
+item_keeps w f fs work (i.AssignNode k) = taking_keeps w _ f.values _ (λ v values. sets_node_keeps w f fs work values k v (slice_get w.vars k))
 item_keeps w f fs work i.Discard = taking_keeps w _ f.values _ (λ v values. refl)
 item_keeps w f fs work i.Print = taking_keeps w _ f.values _ (λ v values. on_str_keeps w _ v _ (λ t. refl))
 item_keeps w f fs work i.Nap = taking_keeps w _ f.values _ (λ v values. on_int_keeps w _ v _ (λ ms. naps_keeps w f fs work values (int_le ms (pos 0)) ms))

@@ -44,28 +44,29 @@ full f fs e = cc
 
 -- the first frame goes on with this work and these values, where the act fits a process that isn't over
 did : {w : World} {p : Program} {r : Routine} {f : Frame} {fs : List Frame} → Here w p r f fs → (does : Act) → ((frames : List Frame) → frames ≢ [] → ActFits does frames) →
-    (vs : List Value) (ts : List Shape) (work : List Item) → ValuesHave vs ts → WorkFits ts work → IsSound p (gives w [] does (with f work vs ∷ fs))
+    (vs : List Value) (ts : List Shape) (work : List Item) → ValuesHave vs ts → WorkFits ts work → IsSound w p (gives w [] does (with f work vs ∷ fs))
 did {r} {f} {fs} here does fits vs ts work hv hw = record {
   next = _;
   is = refl;
+  store = refl;
   typed = (r, here.at, record { shapes = ts; values = hv; work = hw }, here.below);
   act = fits (with f work vs ∷ fs) (full (with f work vs) fs);
 }
 
 -- the first frame goes on with this work and these values
-went : {w : World} {p : Program} {r : Routine} {f : Frame} {fs : List Frame} → Here w p r f fs → (vs : List Value) (ts : List Shape) (work : List Item) → ValuesHave vs ts → WorkFits ts work → IsSound p (gives w [] act.Went (with f work vs ∷ fs))
+went : {w : World} {p : Program} {r : Routine} {f : Frame} {fs : List Frame} → Here w p r f fs → (vs : List Value) (ts : List Shape) (work : List Item) → ValuesHave vs ts → WorkFits ts work → IsSound w p (gives w [] act.Went (with f work vs ∷ fs))
 went here vs ts work hv hw = did here act.Went (λ frames h. h) vs ts work hv hw
 
-eval_sound : {w : World} {p : Program} {r : Routine} {f : Frame} {fs : List Frame} → Here w p r f fs → (ts : List Shape) (t : Shape) (work : List Item) → ValuesHave f.values ts → WorkFits (t ∷ ts) work → (x : ef.Expr-F Expr FieldInit) → LayerHas x t → IsSound p (eval w f fs work x)
+eval_sound : {w : World} {p : Program} {r : Routine} {f : Frame} {fs : List Frame} → Here w p r f fs → (ts : List Shape) (t : Shape) (work : List Item) → ValuesHave f.values ts → WorkFits (t ∷ ts) work → (x : ef.Expr-F Expr FieldInit) → LayerHas x t → IsSound w p (eval w f fs work x)
 eval_sound {f} here ts t work hv hw (ef.Literal v line) h = went here (v ∷ f.values) (t ∷ ts) work (h, hv) hw
 eval_sound here ts t work hv hw x h = elim h [ ]
 
-exec_sound : {w : World} {p : Program} {r : Routine} {f : Frame} {fs : List Frame} → Here w p r f fs → (work : List Item) → ValuesHave f.values [] → WorkFits [] work → (x : sf.Stmt-F Stmt Arm Handlers TagArm When) → IsTypedLayer x → IsSound p (exec w f fs work x)
+exec_sound : {w : World} {p : Program} {r : Routine} {f : Frame} {fs : List Frame} → Here w p r f fs → (work : List Item) → ValuesHave f.values [] → WorkFits [] work → (x : sf.Stmt-F Stmt Arm Handlers TagArm When) → IsTypedLayer x → IsSound w p (exec w f fs work x)
 exec_sound {f} here work hv hw (sf.PutLine e line) h = went here f.values [] (i.Eval e ∷ i.Print ∷ work) hv (shape.Str, h, ([], refl, hw))
 exec_sound {f} here work hv hw (sf.Sleep e line) h = went here f.values [] (i.Eval e ∷ i.Nap ∷ work) hv (shape.Int, h, ([], refl, hw))
 exec_sound here work hv hw x h = elim h [ ]
 
-print_sound : {w : World} {p : Program} {r : Routine} {f : Frame} {fs : List Frame} → Here w p r f fs → (us : List Shape) (work : List Item) (v : Value) (vs : List Value) → HasShape v shape.Str → ValuesHave vs us → WorkFits us work → IsSound p (on_str v (λ text. gives w [] (act.Put text) (with f work vs ∷ fs)))
+print_sound : {w : World} {p : Program} {r : Routine} {f : Frame} {fs : List Frame} → Here w p r f fs → (us : List Shape) (work : List Item) (v : Value) (vs : List Value) → HasShape v shape.Str → ValuesHave vs us → WorkFits us work → IsSound w p (on_str v (λ text. gives w [] (act.Put text) (with f work vs ∷ fs)))
 print_sound here us work value.Nil vs h hv hw = cc
 print_sound here us work (value.Bool b) vs h hv hw = cc
 print_sound here us work (value.Int n) vs h hv hw = cc
@@ -77,7 +78,7 @@ nap_fits : (b : Bool) (ms : ℤ) (frames : List Frame) → frames ≢ [] → Act
 nap_fits true ms frames h = h
 nap_fits false ms frames h = h
 
-nap_sound : {w : World} {p : Program} {r : Routine} {f : Frame} {fs : List Frame} → Here w p r f fs → (us : List Shape) (work : List Item) (v : Value) (vs : List Value) → HasShape v shape.Int → ValuesHave vs us → WorkFits us work → IsSound p (on_int v (naps w (with f work vs ∷ fs)))
+nap_sound : {w : World} {p : Program} {r : Routine} {f : Frame} {fs : List Frame} → Here w p r f fs → (us : List Shape) (work : List Item) (v : Value) (vs : List Value) → HasShape v shape.Int → ValuesHave vs us → WorkFits us work → IsSound w p (on_int v (naps w (with f work vs ∷ fs)))
 nap_sound here us work value.Nil vs h hv hw = cc
 nap_sound here us work (value.Bool b) vs h hv hw = cc
 nap_sound here us work (value.Int n) vs h hv hw = did here (if int_le n (pos 0) then act.Went else act.Sleep n) (nap_fits (int_le n (pos 0)) n) vs us work hv hw
@@ -86,22 +87,23 @@ nap_sound here us work (value.Str text) vs h hv hw = cc
 nap_sound here us work (value.Ref at) vs h hv hw = elim h [ ]
 
 -- an item that takes the first value
-taking_sound : {p : Program} → (t : Shape) (us : List Shape) (vs : List Value) (go : Value → List Value → Option Next) → ValuesHave vs (t ∷ us) → ((v : Value) (rest : List Value) → HasShape v t → ValuesHave rest us → IsSound p (go v rest)) → IsSound p (taking vs go)
+taking_sound : {w : World} {p : Program} → (t : Shape) (us : List Shape) (vs : List Value) (go : Value → List Value → Option Next) → ValuesHave vs (t ∷ us) → ((v : Value) (rest : List Value) → HasShape v t → ValuesHave rest us → IsSound w p (go v rest)) → IsSound w p (taking vs go)
 taking_sound t us [] go hv sound = elim hv [ ]
 taking_sound t us (v ∷ vs) go hv sound = sound v vs hv.0 hv.1
 
-ends_sound : (w : World) (p : Program) (r : Routine) (v : Value) (fs : List Frame) (work : List Item) → HasShape v (result_of r.result) → BelowFit p r fs → IsSound p (ends w (leaves work) v fs)
-ends_sound w p r v [] work h below = record { next = _; is = refl; typed = tt; act = refl }
+ends_sound : (w : World) (p : Program) (r : Routine) (v : Value) (fs : List Frame) (work : List Item) → HasShape v (result_of r.result) → BelowFit p r fs → IsSound w p (ends w (leaves work) v fs)
+ends_sound w p r v [] work h below = record { next = _; is = refl; store = refl; typed = tt; act = refl }
 ends_sound w p r v (f ∷ fs) work h below =
     let old = below.2 in
-    record { next = _; is = refl; typed = (below.0, below.1, record { shapes = result_of r.result ∷ old.shapes; values = (h, old.values); work = old.work }, below.3); act = full _ fs }
+    record { next = _; is = refl; store = refl; typed = (below.0, below.1, record { shapes = result_of r.result ∷ old.shapes; values = (h, old.values); work = old.work }, below.3); act = full _ fs }
 
-fall_sound : {w : World} {p : Program} {r : Routine} {f : Frame} {fs : List Frame} → Here w p r f fs → (work : List Item) → IsSound p (fall w (leaves work) fs (slice_get w.program.routines f.routine))
+fall_sound : {w : World} {p : Program} {r : Routine} {f : Frame} {fs : List Frame} → Here w p r f fs → (work : List Item) → IsSound w p (fall w (leaves work) fs (slice_get w.program.routines f.routine))
 fall_sound {w} {p} {r} {f} {fs} here work =
     let none = (all_at IsTypedRoutine p.routines f.routine r here.good.routines here.at).returns in
-    rw (here.program, here.at, none) (ends_sound w p r value.Nil fs work (ap result_of none) here.below)
+    let at : slice_get w.program.routines f.routine ≡ Some r = rw here.program here.at in
+    rw (at, none) (ends_sound w p r value.Nil fs work (ap result_of none) here.below)
 
-item_sound : {w : World} {p : Program} {r : Routine} {f : Frame} {fs : List Frame} → Here w p r f fs → (item : Item) (work : List Item) (ts : List Shape) → ValuesHave f.values ts → ItemFits ts item (λ us. WorkFits us work) → IsSound p (row_at w f fs work item)
+item_sound : {w : World} {p : Program} {r : Routine} {f : Frame} {fs : List Frame} → Here w p r f fs → (item : Item) (work : List Item) (ts : List Shape) → ValuesHave f.values ts → ItemFits ts item (λ us. WorkFits us work) → IsSound w p (row_at w f fs work item)
 item_sound here (i.Eval e) work ts hv h = eval_sound here ts h.0 work hv h.2 (out-Expr e) h.1
 item_sound here i.Fall work ts hv h = fall_sound here work
 item_sound {w} {f} {fs} here (i.Exec s) work ts hv h =
@@ -115,7 +117,7 @@ item_sound {f} here i.Nap work ts hv h =
 item_sound here item work ts hv h = elim h [ ]
 
 -- typed work has a row
-work_sound : {w : World} {p : Program} {r : Routine} {f : Frame} {fs : List Frame} → Here w p r f fs → (work : List Item) (ts : List Shape) → ValuesHave f.values ts → WorkFits ts work → IsSound p (row_of w f fs work)
+work_sound : {w : World} {p : Program} {r : Routine} {f : Frame} {fs : List Frame} → Here w p r f fs → (work : List Item) (ts : List Shape) → ValuesHave f.values ts → WorkFits ts work → IsSound w p (row_of w f fs work)
 work_sound here [] ts hv h = elim h [ ]
 work_sound here (item ∷ work) ts hv h = item_sound here item work ts hv h
 

@@ -1,5 +1,5 @@
 -- The frames of a process: how one begins, what it keeps, and how it ends.
-use Rattle.std.specs.Prelude.{ℕ, Bool, if◌then◌else◌, ◌==◌, List, [], ◌∷◌, ◌++◌, map, find, Option, Some}
+use Rattle.std.specs.Prelude.{ℕ, Bool, if◌then◌else◌, ◌==◌, List, [], ◌∷◌, ◌++◌, map, find, Option, Some, None}
 use Rattle.std.specs.List.{list_any}
 use Rattle.std.specs.Str.{bytes_eq}
 use Rattle.clu_tree.specs.declared.value.Addr.{Addr}
@@ -26,11 +26,16 @@ declare x shape value [] = record { name = x; shape = shape; value = value } ∷
 declare x shape value (v ∷ vs) =
     if bytes_eq x v.name then record { name = x; shape = shape; value = value } ∷ vs else v ∷ declare x shape value vs
 
--- the variables with this value in the one of this name
-abbrev pub assign : List ℕ → Value → List Var → List Var
-assign x value [] = []
+-- this variable comes before the others, where there are any
+abbrev pub before : Var → Option (List Var) → Option (List Var)
+before v None = None
+before v (Some vs) = Some (v ∷ vs)
+
+-- the variables with this value in the one of this name, where there is one
+abbrev pub assign : List ℕ → Value → List Var → Option (List Var)
+assign x value [] = None
 assign x value (v ∷ vs) =
-    if bytes_eq x v.name then record v { value = Some value } ∷ vs else v ∷ assign x value vs
+    if bytes_eq x v.name then Some (record v { value = Some value } ∷ vs) else before v (assign x value vs)
 
 -- the variables with each parameter declared as its argument
 abbrev pub bind : List Var → List Named → List Value → List Var

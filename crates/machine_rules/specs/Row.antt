@@ -194,6 +194,16 @@ setting x meant.Local = Some (i.Assign x)
 setting x (meant.NodeVar k) = Some (i.AssignNode k)
 setting x _ = None
 
+-- the variables become these, where there is one of the name
+abbrev pub sets_local : World → Frame → List Frame → List Item → List Value → Option (List Var) → Option Next
+sets_local w f fs work values None = None
+sets_local w f fs work values (Some vars) = goes w (with_vars f vars work values ∷ fs)
+
+-- the node sets its variable at the place k, where there is one
+abbrev pub sets_node : World → Frame → List Frame → List Item → List Value → ℕ → Value → Option (Option Value) → Option Next
+sets_node w f fs work values k v None = None
+sets_node w f fs work values k v (Some _) = gives w [] (act.SetVar k v) (with f work values ∷ fs)
+
 abbrev pub assigns : World → Frame → List Frame → List Item → Expr → Target → Option Next
 assigns w f fs work e (target.Name x _ m) = operands w f fs work (e ∷ []) (setting x m)
 assigns w f fs work e (target.Field r _ _ m) = operands w f fs (i.Discard ∷ work) (r ∷ e ∷ []) (at_field m i.Put)
@@ -339,8 +349,8 @@ row_at w f fs work (i.Pick or e) = taking f.values (λ v values. on_bool v (pick
 row_at w f fs work (i.Enter k) = taking_args (slice_get w.program.routines k) f.values (enters w f fs work k)
 row_at w f fs work i.Fall = fall w (leaves work) fs (slice_get w.program.routines f.routine)
 row_at w f fs work (i.Exec s) = exec w (at_line f (line_of f.line (out-Stmt s))) fs work (out-Stmt s)
-row_at w f fs work (i.Assign x) = taking f.values (λ v values. goes w (with_vars f (assign x v f.vars) work values ∷ fs))
-row_at w f fs work (i.AssignNode k) = taking f.values (λ v values. gives w [] (act.SetVar k v) (with f work values ∷ fs))
+row_at w f fs work (i.Assign x) = taking f.values (λ v values. sets_local w f fs work values (assign x v f.vars))
+row_at w f fs work (i.AssignNode k) = taking f.values (λ v values. sets_node w f fs work values k v (slice_get w.vars k))
 row_at w f fs work i.Discard = taking f.values (λ v values. goes w (with f work values ∷ fs))
 row_at w f fs work i.Print = taking f.values (λ v values. on_str v (λ text. gives w [] (act.Put text) (with f work values ∷ fs)))
 row_at w f fs work i.Nap = taking f.values (λ v values. on_int v (naps w (with f work values ∷ fs)))

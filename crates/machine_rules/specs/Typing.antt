@@ -77,14 +77,15 @@ ActFits (act.Sleep ms) frames = frames ≢ []
 ActFits (act.Ended v) frames = frames ≡ []
 ActFits _ frames = ⊥
 
--- There is a row, the frames that it leaves are typed, and its act fits them.
-pub record IsSound (p : Program) (row : Option Next) : Type 0 where
+-- There is a row, the frames that it leaves are typed, its act fits them, and the objects stay as they are.
+pub record IsSound (w : World) (p : Program) (row : Option Next) : Type 0 where
   pub next : Next
   pub is : row ≡ Some next
+  pub store : next.store ≡ w.store
   pub typed : FramesFit p next.frames
   pub act : ActFits next.act next.frames
 
 -- Each process begins typed; while it is typed and not over it has a row, and what the row leaves is typed.
 pub record IsNeverStuck (p : Program) : Type 0 where
   pub starts : (k : ℕ) (r : Routine) (args : List Value) → slice_get p.routines k ≡ Some r → ArgsFit args r.params → FramesFit p (start k r args)
-  pub goes_on : (w : World) (f : Frame) (fs : List Frame) → w.program ≡ p → FramesFit p (f ∷ fs) → IsSound p (row w (f ∷ fs))
+  pub goes_on : (w : World) (f : Frame) (fs : List Frame) → w.program ≡ p → FramesFit p (f ∷ fs) → IsSound w p (row w (f ∷ fs))

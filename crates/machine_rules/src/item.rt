@@ -16,9 +16,9 @@ pub enum Item {
     /// Takes an operation's operands and adds its result.
     Apply(Op),
     /// Makes a record of so many fields.
-    MakeRecord(u16),
+    MakeRecord(usize),
     /// Makes an array of so many elements.
-    MakeArray(u32),
+    MakeArray(usize),
     /// Makes a oneof with this tag.
     MakeTag(u16),
     /// Reads a field.

@@ -28,6 +28,34 @@ pub fn node_var(name: Text, shape: Shape, first: Option<Initial>, line: u32) -> 
     }
 }
 
+/// A literal, with which a node variable begins.
+pub fn first_literal(value: Value) -> Initial
+    ensures { result ≡ Initial.Literal value }
+{
+    Initial::Literal(value)
+}
+
+/// `lock$create()`, with which a node variable begins.
+pub fn first_lock() -> Initial
+    ensures { result ≡ Initial.Lock }
+{
+    Initial::Lock
+}
+
+/// `semaphore$create(count)`, with which a node variable begins.
+pub fn first_semaphore(count: i64) -> Initial
+    ensures { result ≡ Initial.Semaphore count }
+{
+    Initial::Semaphore(count)
+}
+
+/// `array[element]$new()`, with which a node variable begins.
+pub fn first_empty(element: Shape) -> Initial
+    ensures { result ≡ Initial.Empty element }
+{
+    Initial::Empty(element)
+}
+
 /// A cluster whose routines are the `count` ones of the program from the place `first` on, counted from 0.
 pub fn cluster(
     name: Text,
