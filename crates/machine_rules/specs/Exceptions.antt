@@ -117,9 +117,9 @@ unwind w left s [] = gives w left (act.Died s) []
 unwind w left s (f ∷ fs) =
     lands w left s f fs (landing s.name f.work) (unwind w (left ++ leaves f.work) (leaving (landing s.name f.work) s) fs)
 
--- a step of this frame raises s, with this work behind the step
+-- a step of this frame raises s, with this work behind the step; no value of the frame outlives it
 abbrev pub raises : World → Sig → Frame → List Frame → List Item → Option Next
-raises w s f fs work = unwind w [] s (with f work f.values ∷ fs)
+raises w s f fs work = unwind w [] s (with f work [] ∷ fs)
 
 -- a step of this frame raises failure
 abbrev pub fails : World → List ℕ → Frame → List Frame → List Item → Option Next
