@@ -1,1 +1,3 @@
 pub mod Names
+pub mod Stacks
+pub mod Unwinding

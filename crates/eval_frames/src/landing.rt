@@ -1,6 +1,7 @@
 //! Where an exception lands in the work of a frame.
 
 ghost use Rattle.std.specs.Prelude.{◌≡◌, ◌++◌, [], IfOk, OnOk, IsTrue};
+ghost use Rattle.std.specs.Str.{bytes_eq};
 ghost use Rattle.clu_tree.specs.declared.tree.Handlers.{out-Handlers};
 ghost use Rattle.eval_frames.specs.Landings as landings;
 ghost use Rattle.eval_frames.specs.Takes as takes;
@@ -28,12 +29,19 @@ pub struct Landed {
     pub gone: Items<Addr>,
 }
 
+/// Whether both names are spelled alike.
+fn is_same(name: &Text, other: &Text) -> bool
+    ensures { result ≡ bytes_eq name.now other.now }
+{
+    name.as_slice() == other.as_slice()
+}
+
 /// Whether the name is one of these.
 fn is_named(name: &Text, names: &[Text]) -> bool
     ensures { result ≡ rule.is_named name.now names.now }
 {
     for other in names {
-        if name.is(other) {
+        if is_same(name, other) {
             return true;
         }
     }

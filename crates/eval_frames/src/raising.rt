@@ -130,15 +130,20 @@ pub fn unwind(
 pub fn raise(
     alloc: Global,
     frames: &mut Stack<Frame>,
-    mut frame: Frame,
+    frame: Frame,
     sig: Sig,
 ) -> Result<StepEnd, AllocError>
     ghost w: { World }
     requires { IsSome (rule.raises w sig frame frames.old frame.work) }
     ensures { IfOk result (λ end. rule.raises w sig frame frames.old frame.work ≡ gives w end.left end.act frames.new) }
 {
-    frame.values = Stack::new(alloc);
-    frames.push(frame)?;
+    frames.push(Frame {
+        routine: frame.routine,
+        line: frame.line,
+        vars: frame.vars,
+        work: frame.work,
+        values: Stack::new(alloc),
+    })?;
     unwind(alloc, frames, Items::new(alloc), sig)
 }
 
