@@ -1,19 +1,13 @@
 -- A part of a program has no more routines than tokens.
 use Rattle.std.proofs.Common.{◌≡◌, ℕ, ◌+◌, ◌≤◌, List, [], ◌∷◌, length, Some, arith}
 use Rattle.clu_tree.specs.declared.program.Routine.{Routine}
-use Rattle.clu_grammar.specs.Grammar.{Tokens, Part, AnEquate, ANodeVar, ARoutine, ACluster, ANode, ReadsRoutines, ReadsPart}
+use Rattle.clu_grammar.specs.Grammar.{Tokens, Part, routines_in, ReadsRoutines, ReadsPart}
 use Rattle.clu_grammar.specs.Grammar as g
 use Rattle.clu_grammar.specs.ProgramPlan as plan
 use Rattle.clu_grammar.proofs.Shrinks.{shrinks-shape}
 use Rattle.clu_grammar.proofs.StmtShrinks.{shrinks-names}
 use Rattle.clu_grammar.proofs.ProgramComplete.{shrinks-routine, shrinks-node_parts, shrinks-initial}
 use Rattle.clu_grammar.proofs.ProgramSound.{part-sound}
-
--- how many routines a part has
-abbrev pub routines_in : Part → ℕ
-routines_in (ARoutine _) = 1
-routines_in (ACluster _ _ _ routines _) = length routines
-routines_in _ = 0
 
 few-routines : {ts r : Tokens} {xs : List Routine} → ReadsRoutines ts r xs → length xs + length r ≤ length ts
 few-routines g.no_routines = omega arith

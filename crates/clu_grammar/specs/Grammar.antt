@@ -388,6 +388,12 @@ pub data Part : Type 0 where
   ACluster : List ℕ → List (List ℕ) → Shape → List Routine → ℕ → Part
   ANode : NodeDecl → Part
 
+-- how many routines a part has
+abbrev pub routines_in : Part → ℕ
+routines_in (ARoutine _) = 1
+routines_in (ACluster _ _ _ rs _) = length rs
+routines_in _ = 0
+
 pub data ReadsPart : Tokens → Tokens → Part → Type 0 where
   equate : {x : List ℕ} {l k : ℕ} {m r : Tokens} {s : Shape} → ReadsShape m r s → ReadsPart (lexeme.Name x l ∷ lexeme.Key key.Equals k ∷ m) r (AnEquate (record { name = x; shape = s; line = l }))
   node_var : {x : List ℕ} {l k j : ℕ} {m r : Tokens} {s : Shape} → ReadsShape m r s →

@@ -3,9 +3,9 @@ use Rattle.std.proofs.Common.{◌≡◌, ℕ, suc, ◌+◌, ◌-◌, ◌<◌, �
 use Rattle.std.proofs.lemmas.List.{length-append}
 use Rattle.clu_tree.specs.declared.lexeme.Lexeme.{Lexeme}
 use Rattle.clu_tree.specs.declared.program.Program.{Program}
-use Rattle.clu_grammar.specs.Grammar.{Tokens, Part, AnEquate, ANodeVar, ARoutine, ACluster, ANode, with_part, program_of, empty_program}
+use Rattle.clu_grammar.specs.Grammar.{Tokens, Part, AnEquate, ANodeVar, ARoutine, ACluster, ANode, routines_in, with_part, program_of, empty_program}
 use Rattle.clu_grammar.specs.ProgramPlan as plan
-use Rattle.clu_grammar.proofs.Few.{routines_in, part_has_few}
+use Rattle.clu_grammar.proofs.Few.{part_has_few}
 use Rattle.clu_program_reader.specs.Whole.{with_rest}
 
 -- what the whole loop finds, where the tokens are at their end

@@ -2,10 +2,9 @@
 
 ghost use Rattle.std.specs.Prelude.{◌≡◌, ◌≤◌, ℕ, IfOk, OnOk, length};
 ghost use Rattle.clu_tree.specs.declared.program.Program.{Program};
-ghost use Rattle.clu_grammar.specs.Grammar.{ReadsProgram, empty_program, with_part};
+ghost use Rattle.clu_grammar.specs.Grammar.{ReadsProgram, empty_program, routines_in, with_part};
 ghost use Rattle.clu_grammar.specs.Nesting.{program_nesting};
 ghost use Rattle.clu_grammar.specs.ProgramPlan as plan;
-ghost use Rattle.clu_grammar.proofs.Few.{routines_in};
 ghost use Rattle.clu_program_reader.specs.Views.{cluster_part, part_view};
 ghost use Rattle.clu_program_reader.specs.Whole.{GivesAll};
 
