@@ -350,3 +350,153 @@ fn a_journal_has_a_million_lines_at_most(rt: HostRuntime) -> Result<(), Fail> {
     }
     Ok(())
 }
+
+/// Each line of the format. A 5 is nothing but the stamp.
+const LINES: [&[u8]; 22] = [
+    b"5 turn 1 64 0\n",
+    b"5 packet 2 1 3\n",
+    b"5 tick 1\n",
+    b"5 stop 1\n",
+    b"5 halt 2\n",
+    b"5 resume 8\n",
+    b"5 ask 1 ps\n",
+    b"5 ask 1 where 2\n",
+    b"5 ask 1 caller once 7\n",
+    b"5 ask 1 caller maybe 7\n",
+    b"5 ask 1 vars 2\n",
+    b"5 ask 1 print 3 x\n",
+    b"5 ask 1 calls\n",
+    b"5 ask 1 time\n",
+    b"5 answer 1\n",
+    b"5 set 1 9\n",
+    b"5 clear 1 9\n",
+    b"5 haltall\n",
+    b"5 resumeall\n",
+    b"5 resumeall 0\n",
+    b"5 say node\n",
+    b"5 quit\n",
+];
+
+/// What is no spelling of a line: other blanks than one space between words, and zeros before a number.
+const CHANGES: [(u8, &[u8]); 13] = [
+    (b'5', b"05"),
+    (b'5', b" 5"),
+    (b'5', b"\t5"),
+    (b'5', b"+5"),
+    (b' ', b" 0"),
+    (b' ', b"  "),
+    (b' ', b"\t"),
+    (b' ', b"\r"),
+    (b' ', b""),
+    (b'\n', b" \n"),
+    (b'\n', b"\t\n"),
+    (b'\n', b"\r\n"),
+    (b'\n', b""),
+];
+
+/// The line, with other bytes in place of the one at a place.
+fn changed(
+    alloc: Global,
+    line: &[u8],
+    place: usize,
+    instead: &[u8],
+) -> Result<Vec<u8>, AllocError> {
+    let mut bytes = Vec::new(alloc);
+    for (at, b) in line.iter().enumerate() {
+        if at == place {
+            bytes.extend_from_slice(instead)?;
+        } else {
+            bytes.push(*b)?;
+        }
+    }
+    Ok(bytes)
+}
+
+/// Whether the line is refused with other bytes in place of this one, wherever it has it.
+fn refuses_change(
+    alloc: Global,
+    line: &[u8],
+    byte: u8,
+    instead: &[u8],
+) -> Result<bool, AllocError> {
+    for (at, b) in line.iter().enumerate() {
+        if *b == byte && !is_refused(alloc, &changed(alloc, line, at, instead)?) {
+            return Ok(false);
+        }
+    }
+    Ok(true)
+}
+
+/// Whether the bytes are read, and are what is written of what they are read as.
+fn is_both_ways(alloc: Global, bytes: &[u8]) -> bool {
+    match both_ways(alloc, bytes) {
+        Ok(shown) => shown.as_str() != "written otherwise",
+        Err(_) => false,
+    }
+}
+
+#[test]
+fn each_line_has_one_spelling(rt: HostRuntime) -> Result<(), Fail> {
+    for line in LINES {
+        assert!(rt; is_both_ways(rt.alloc(), line), "{}", line.escape_ascii());
+        for (byte, instead) in CHANGES {
+            assert!(rt;
+                refuses_change(rt.alloc(), line, byte, instead)?,
+                "{} {}",
+                line.escape_ascii(),
+                instead.escape_ascii()
+            );
+        }
+    }
+    Ok(())
+}
+
+/// The line with this number between what stands before and behind.
+fn numbered(alloc: Global, before: &str, number: u64, behind: &str) -> Result<String, AllocError> {
+    format!(in alloc; "{before}{number}{behind}\n")
+}
+
+/// The places of numbers: what stands before, the least and the greatest number, and what stands behind.
+const PLACES: [(&str, u64, u64, &str); 23] = [
+    ("", 0, 4611686018427387903, " quit"),
+    ("5 turn ", 0, 4294967295, " 1 0"),
+    ("5 turn 1 ", 1, 64, " 0"),
+    ("5 turn 1 1 ", 0, 4611686018427387903, ""),
+    ("5 packet ", 0, 4294967295, " 1 0"),
+    ("5 packet 1 ", 0, 4294967295, " 0"),
+    ("5 packet 1 1 ", 0, 4611686018427387903, ""),
+    ("5 tick ", 0, 4294967295, ""),
+    ("5 stop ", 0, 4294967295, ""),
+    ("5 halt ", 0, 4294967295, ""),
+    ("5 resume ", 0, 4294967295, ""),
+    ("5 ask ", 0, 4294967295, " ps"),
+    ("5 ask 1 where ", 0, 4611686018427387904, ""),
+    ("5 ask 1 caller once ", 0, 4611686018427387904, ""),
+    ("5 ask 1 caller maybe ", 0, 4611686018427387904, ""),
+    ("5 ask 1 vars ", 0, 4611686018427387904, ""),
+    ("5 ask 1 print ", 0, 4611686018427387904, " x"),
+    ("5 answer ", 0, 4294967295, ""),
+    ("5 set ", 0, 4294967295, " 1"),
+    ("5 set 1 ", 1, 1048576, ""),
+    ("5 clear ", 0, 4294967295, " 1"),
+    ("5 clear 1 ", 1, 1048576, ""),
+    ("5 resumeall ", 0, 4611686018427387903, ""),
+];
+
+#[test]
+fn numbers_go_to_their_bounds(rt: HostRuntime) -> Result<(), Fail> {
+    for (before, least, greatest, behind) in PLACES {
+        let first = numbered(rt.alloc(), before, least, behind)?;
+        assert!(rt; is_both_ways(rt.alloc(), first.as_bytes()), "{first}");
+        let last = numbered(rt.alloc(), before, greatest, behind)?;
+        assert!(rt; is_both_ways(rt.alloc(), last.as_bytes()), "{last}");
+        let more = numbered(rt.alloc(), before, greatest.saturating_add(1), behind)?;
+        assert!(rt; is_refused(rt.alloc(), more.as_bytes()), "{more}");
+        let fewer = numbered(rt.alloc(), before, least.saturating_sub(1), behind)?;
+        assert!(rt;
+            least == 0 || is_refused(rt.alloc(), fewer.as_bytes()),
+            "{fewer}"
+        );
+    }
+    Ok(())
+}
