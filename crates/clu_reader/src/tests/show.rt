@@ -4,7 +4,6 @@ use clu_tree::{
     Arm, Cluster, Expr, Handlers, Initial, Iter, Listed, Named, NodeDecl, NodePart, NodeVar,
     Program, Remote, Routine, Shape, Stmt, TagArm, Target, Text, Value, When,
 };
-use sqlite_items::Items;
 use std::alloc::{AllocError, Global};
 
 /// A text that grows.
@@ -291,7 +290,10 @@ impl Shown {
                 self.after(b"if ", test)?;
                 self.body(body.as_slice())?;
                 self.arms(arms.as_slice())?;
-                self.others(b" else", others)?;
+                if let Some(others) = others {
+                    self.put(b" else")?;
+                    self.body(others.as_slice())?;
+                }
                 self.line(*line)
             }
             Stmt::While(test, body, line) => {
@@ -312,7 +314,10 @@ impl Shown {
             Stmt::Tagcase(value, arms, others, line) => {
                 self.after(b"tagcase ", value)?;
                 self.tags(arms.as_slice())?;
-                self.others(b" others", others)?;
+                if let Some(others) = others {
+                    self.put(b" others")?;
+                    self.body(others.as_slice())?;
+                }
                 self.line(*line)
             }
             other => self.enclosing(other),
@@ -351,17 +356,6 @@ impl Shown {
     }
 
     #[cycle(stmt)]
-    fn others(&mut self, before: &[u8], body: &Option<Items<Stmt>>) -> Result<(), AllocError> {
-        match body {
-            None => Ok(()),
-            Some(body) => {
-                self.put(before)?;
-                self.body(body.as_slice())
-            }
-        }
-    }
-
-    #[cycle(stmt)]
     fn arms(&mut self, arms: &[Arm]) -> Result<(), AllocError> {
         for arm in arms {
             self.after(b" elseif ", &arm.test)?;
@@ -384,7 +378,13 @@ impl Shown {
     #[cycle(stmt)]
     fn handlers(&mut self, handlers: &Handlers) -> Result<(), AllocError> {
         self.whens(handlers.whens.as_slice())?;
-        self.others(b" others", &handlers.others)
+        match &handlers.others {
+            None => Ok(()),
+            Some(others) => {
+                self.put(b" others")?;
+                self.body(others.as_slice())
+            }
+        }
     }
 
     #[cycle(stmt)]
