@@ -42,10 +42,12 @@ fn picks(
 ) -> Result<StepEnd, AllocError>
     ensures { IfOk result (λ end. (w : World) → rule.picks w frame frames.old frame.work frame.values or second first ≡ gives w end.left end.act frames.new) }
 {
-    if first == or {
-        return adds(alloc, frames, frame, Value::Bool(first));
+    match (or, first) {
+        (true, true) => adds(alloc, frames, frame, Value::Bool(true)),
+        (true, false) => evals(alloc, frames, frame, second),
+        (false, true) => evals(alloc, frames, frame, second),
+        (false, false) => adds(alloc, frames, frame, Value::Bool(false)),
     }
-    evals(alloc, frames, frame, second)
 }
 
 /// The row of `Branch`.
