@@ -87,7 +87,10 @@ pub(crate) fn top<S: Store>(
         unreachable!();
     };
     match last_of(store, at) {
-        Some(value) => adds(alloc, frames, frame, value.copy(alloc)?),
+        Some(value) => {
+            let value = value.copy(alloc)?;
+            adds(alloc, frames, frame, value)
+        }
         None => out_of_bounds(alloc, frames, frame),
     }
 }
@@ -108,7 +111,10 @@ pub(crate) fn bottom<S: Store>(
         unreachable!();
     };
     match first_of(store, at) {
-        Some(value) => adds(alloc, frames, frame, value.copy(alloc)?),
+        Some(value) => {
+            let value = value.copy(alloc)?;
+            adds(alloc, frames, frame, value)
+        }
         None => out_of_bounds(alloc, frames, frame),
     }
 }

@@ -31,7 +31,10 @@ pub fn get<S: Store>(
         unreachable!();
     };
     match field_of(store, at, field) {
-        Some(value) => adds(alloc, frames, frame, value.copy(alloc)?),
+        Some(value) => {
+            let value = value.copy(alloc)?;
+            adds(alloc, frames, frame, value)
+        }
         None => unreachable!(),
     }
 }
