@@ -42,6 +42,7 @@ fn items_of<'a, S: Store>(store: &'a S, at: Addr) -> &'a Values
 }
 
 /// How many elements an array has.
+#[tactic(auto, using(crate::proofs::Rows::array_cells))]
 pub(crate) fn size_of<S: Store>(store: &S, at: Addr) -> i64
     requires { IsArrayAt (S.seen store.now).objects at.0 }
     ensures { result ≡ pos (length (array_at (S.seen store.now).objects at.0).items) }

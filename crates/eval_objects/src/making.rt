@@ -83,6 +83,7 @@ pub fn make_record<S: Store>(
 }
 
 /// Makes an array of these elements, from 1.
+#[tactic(auto, using(crate::proofs::Rows::no_room, crate::proofs::Rows::few_sound))]
 fn makes_array<S: Store>(
     alloc: Global,
     store: &mut S,
@@ -192,6 +193,7 @@ pub(crate) fn create_lock<S: Store>(
 }
 
 /// Makes a semaphore.
+#[tactic(auto, using(crate::proofs::Rows::counted))]
 pub(crate) fn create_semaphore<S: Store>(
     alloc: Global,
     store: &mut S,

@@ -47,6 +47,7 @@ fn ended(
 }
 
 /// The row of an operation on values.
+#[tactic(auto, using(crate::proofs::Rows::ended_some))]
 pub(crate) fn on_values(
     alloc: Global,
     frames: &mut Stack<Frame>,

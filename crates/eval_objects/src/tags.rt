@@ -87,6 +87,7 @@ fn takes_others(
 }
 
 /// The frame goes on with the arm of a tag, or with `others` where there is none.
+#[tactic(auto, using(crate::proofs::Rows::takes_chosen))]
 fn takes_tag(
     alloc: Global,
     frames: &mut Stack<Frame>,

@@ -1,6 +1,4 @@
-use Rattle.std.proofs.Common.{rules}
-use Rattle.eval_objects.proofs.Rows.{everywhere}
 use Rattle.eval_objects.proofs.adding.begins.Goals as goal
 
 pub returns : goal.returns
-returns c = everywhere _ _ _ _ c.goes.ensures (λ v. search rules)
+returns c = rw (← c.in_ok-declare.ensures, ← c.in_ok-put_body.ensures) c.goes.ensures

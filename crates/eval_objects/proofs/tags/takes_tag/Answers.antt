@@ -6,4 +6,4 @@ pub returns-in-Some : goal.returns-in-Some
 returns-in-Some g c = here g.w _ _ _ _ c.takes_arm.ensures (rw takes_chosen (search rules))
 
 pub returns-in-None : goal.returns-in-None
-returns-in-None g c = by_row g.w _ _ _ _ c.takes_others.ensures (rw takes_chosen (search rules))
+returns-in-None g c = by_row _ _ _ _ _ c.takes_others.ensures (rw takes_chosen (search rules))
