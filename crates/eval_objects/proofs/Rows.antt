@@ -115,7 +115,7 @@ pub near_at : (s : Store) (at : ℕ) (low : ℤ) (items : List Value) (r : ℤ) 
 near_at s at low items r e o h = rw (e, o) (sound_high low items h)
 
 -- a call on the store that gave no value was refused with this
-pub done_refused : (cause : Option RegionFault) (refusal : RegionFault) → Err {T = Unit} refusal ≡ done_unless cause → cause ≡ Some refusal
+pub done_refused : (cause : Option RegionFault) (refusal : RegionFault) → Err refusal ≡ done_unless cause → cause ≡ Some refusal
 done_refused None refusal h = cc
 done_refused (Some fault) refusal h = cc
 
@@ -133,3 +133,7 @@ pub each_is : (w : World) (f : Frame) (fs : List Frame) (work : List Item) (x : 
 each_is w f fs work x t body a k next v h e o =
     let p : (in_bounds (array_at w.store a.0) k ≡ true) × (next ≡ k +ℤ pos 1) = after_some _ _ _ e in
     rw (h, p.0, o, p.1) refl
+
+-- a round that was copied is the same
+pub same_round : (x x2 : List ℕ) (t t2 : Shape) (body body2 : List Stmt) (a : Addr) (k : ℤ) (work new : List Item) → x2 ≡ x → t2 ≡ t → body2 ≡ body → new ≡ i.Each x2 t2 body2 a k ∷ work → new ≡ i.Each x t body a k ∷ work
+same_round x x2 t t2 body body2 a k work new p q r h = h ∙ rw (p, q, r) refl

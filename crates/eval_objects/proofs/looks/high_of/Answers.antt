@@ -8,4 +8,4 @@ returns-clause-high g c = first_of (search rules, grind (arith, common_steps))
 
 pub returns-clause-near : goal.returns-clause-near
 returns-clause-near g c =
-    near_at (g.S.Store.seen c.args.store.now).objects c.args.at.0 c.in-Some-Arr.low c.in-Some-Arr.items.now _ (returns-clause-high g c) (search rules) (search rules)
+    near_at (g.S.Store.seen c.args.store.now).objects c.args.at.0 c.in-Some-Arr.low c.in-Some-Arr.items _ (returns-clause-high g c) (search rules) (search rules)
