@@ -24,7 +24,7 @@ use Rattle.machine_rules.specs.declared.act.Act.{Act}
 use Rattle.machine_rules.specs.declared.act.StepEnd.{StepEnd}
 use Rattle.machine_rules.specs.World.{World, Next, gives}
 use Rattle.machine_rules.specs.Operations.{ended, makes_semaphore, refused, stores}
-use Rattle.machine_rules.specs.Row.{begins, each, is_tag, takes_arm, takes_others, takes_tag}
+use Rattle.machine_rules.specs.Row.{begins, each, goes, is_tag, takes_arm, takes_others, takes_tag, with}
 use Rattle.eval_objects.specs.Arms.{chosen, takes}
 use Rattle.eval_objects.specs.Seen.{count_in, makes_counted, took}
 
@@ -135,5 +135,13 @@ each_is w f fs work x t body a k next v h e o =
     rw (h, p.0, o, p.1) refl
 
 -- a round that was copied is the same
-pub same_round : (x x2 : List ℕ) (t t2 : Shape) (body body2 : List Stmt) (a : Addr) (k : ℤ) (work new : List Item) → x2 ≡ x → t2 ≡ t → body2 ≡ body → new ≡ i.Each x2 t2 body2 a k ∷ work → new ≡ i.Each x t body a k ∷ work
-same_round x x2 t t2 body body2 a k work new p q r h = h ∙ rw (p, q, r) refl
+pub same_round : (x x2 : List ℕ) (t t2 : Shape) (body body2 : List Stmt) (a : Addr) (k k2 : ℤ) (work new : List Item) → x2 ≡ x → t2 ≡ t → body2 ≡ body → new ≡ i.Each x2 t2 body2 a k2 ∷ work → k2 ≡ k → new ≡ i.Each x t body a k ∷ work
+same_round x x2 t t2 body body2 a k k2 work new p q r h e = h ∙ rw (p, q, r, e) refl
+
+not_after : (b : Bool) (k : ℤ) → ((x : ℤ) → (if b then Some k else None) ≡ Some x → ⊥) → b ≡ false
+not_after true k h = absurd (h k refl)
+not_after false k h = refl
+
+-- the row behind the last round
+pub each_over : (w : World) (f : Frame) (fs : List Frame) (work : List Item) (x : List ℕ) (t : Shape) (body : List Stmt) (a : Addr) (k : ℤ) → is_array (slice_get w.store a.0) ≡ true → ((next : ℤ) → (if in_bounds (array_at w.store a.0) k then Some (k +ℤ pos 1) else None) ≡ Some next → ⊥) → each w f fs work x t body a k ≡ goes w (with f work f.values ∷ fs)
+each_over w f fs work x t body a k h n = rw (h, not_after _ _ n) refl
