@@ -129,10 +129,10 @@ after_some true k next h = (refl, cc)
 after_some false k next h = cc
 
 -- the row of a round that has an element
-pub each_is : (w : World) (f : Frame) (fs : List Frame) (work : List Item) (x : List ℕ) (t : Shape) (body : List Stmt) (a : Addr) (k next : ℤ) (v : Value) → is_array (slice_get w.store a.0) ≡ true → Some next ≡ (if in_bounds (array_at w.store a.0) k then Some (k +ℤ pos 1) else None) → item_at (array_at w.store a.0) k ≡ Some v → each w f fs work x t body a k ≡ begins w f fs (i.Each x t body a next ∷ work) f.values x t v body
-each_is w f fs work x t body a k next v h e o =
+pub each_is : (w : World) (f : Frame) (fs : List Frame) (work : List Item) (x : List ℕ) (t : Shape) (body : List Stmt) (a : Addr) (k next next2 : ℤ) (v : Value) → is_array (slice_get w.store a.0) ≡ true → Some next ≡ (if in_bounds (array_at w.store a.0) k then Some (k +ℤ pos 1) else None) → item_at (array_at w.store a.0) k ≡ Some v → next2 ≡ next → each w f fs work x t body a k ≡ begins w f fs (i.Each x t body a next2 ∷ work) f.values x t v body
+each_is w f fs work x t body a k next next2 v h e o q =
     let p : (in_bounds (array_at w.store a.0) k ≡ true) × (next ≡ k +ℤ pos 1) = after_some _ _ _ e in
-    rw (h, p.0, o, p.1) refl
+    rw (h, p.0, o, q, p.1) refl
 
 -- a round that was copied is the same
 pub same_round : (x x2 : List ℕ) (t t2 : Shape) (body body2 : List Stmt) (a : Addr) (k k2 : ℤ) (work new : List Item) → x2 ≡ x → t2 ≡ t → body2 ≡ body → new ≡ i.Each x2 t2 body2 a k2 ∷ work → k2 ≡ k → new ≡ i.Each x t body a k ∷ work
