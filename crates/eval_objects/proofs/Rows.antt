@@ -1,5 +1,5 @@
 -- Lemmas on rows that use objects.
-use Rattle.std.proofs.Common.{◌≡◌, ◌≤◌, ◌<◌, ◌+◌, ℕ, ℤ, pos, ◌+ℤ◌, negsuc, ◌^◌, Bool, true, false, if◌then◌else◌, nat_le, nat_lt, ◌&&◌, List, [], ◌∷◌, length, Option, Some, None, IsSome, IfOk, Result, Ok, Err, slice_get, get_or, refl, sym, subst, ◌∙◌, ap, arith}
+use Rattle.std.proofs.Common.{◌≡◌, ◌≤◌, ◌<◌, ◌+◌, ℕ, ℤ, pos, ◌+ℤ◌, negsuc, ◌^◌, Bool, true, false, if◌then◌else◌, nat_le, nat_lt, ◌&&◌, List, [], ◌∷◌, length, Option, Some, None, IsSome, IfOk, Result, Ok, Err, slice_get, get_or, refl, ◌∙◌, ap, arith}
 use Rattle.std.proofs.lemmas.Bool.Decides.{nat_tests}
 use Rattle.std.proofs.lemmas.Int.{ints}
 use Rattle.std.proofs.lemmas.List.Sums.{get_or-le-sum_by}
@@ -12,7 +12,6 @@ use Rattle.clu_tree.specs.declared.tree.Stmt.{Stmt}
 use Rattle.clu_tree.specs.declared.tree.TagArm.{TagArm, out-TagArm}
 use Rattle.clu_ops.specs.declared.op_end.OpEnd.{OpEnd}
 use Rattle.obj_region.specs.declared.fault.RegionFault.{RegionFault}
-use Rattle.obj_region.specs.declared.fault.RegionFault.TheVariants as fault
 use Rattle.obj_region.specs.Answers.{done_unless}
 use Rattle.obj_region.specs.declared.object.Obj.{Obj}
 use Rattle.obj_region.specs.declared.object.Obj.TheVariants as obj
@@ -20,11 +19,10 @@ use Rattle.obj_region.specs.Store.{Store, array_at, array_of, cells, cells_in, h
 use Rattle.machine_rules.specs.declared.item.Item.{Item}
 use Rattle.machine_rules.specs.declared.item.Item.TheVariants as i
 use Rattle.machine_rules.specs.declared.frame.Frame.{Frame}
-use Rattle.machine_rules.specs.declared.act.Act.{Act}
 use Rattle.machine_rules.specs.declared.act.StepEnd.{StepEnd}
 use Rattle.machine_rules.specs.World.{World, Next, gives}
-use Rattle.machine_rules.specs.Operations.{ended, makes_semaphore, refused, stores}
-use Rattle.machine_rules.specs.Row.{begins, each, goes, is_tag, takes_arm, takes_others, takes_tag, with}
+use Rattle.machine_rules.specs.Operations.{ended, makes_semaphore}
+use Rattle.machine_rules.specs.Row.{begins, each, goes, is_tag, takes_arm, takes_tag, with}
 use Rattle.eval_objects.specs.Arms.{chosen, takes}
 use Rattle.eval_objects.specs.Seen.{count_in, makes_counted, took}
 
