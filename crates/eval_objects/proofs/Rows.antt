@@ -1,5 +1,5 @@
 -- Lemmas on rows that use objects.
-use Rattle.std.proofs.Common.{◌≡◌, ◌≤◌, ◌<◌, ◌+◌, ℕ, ℤ, pos, ◌+ℤ◌, negsuc, ◌^◌, Bool, true, false, if◌then◌else◌, nat_le, nat_lt, ◌&&◌, List, [], ◌∷◌, length, Option, Some, None, IsSome, IfOk, Result, Ok, Err, slice_get, get_or, refl, sym, subst, ◌∙◌, ap, arith}
+use Rattle.std.proofs.Common.{◌≡◌, ◌≤◌, ◌<◌, ◌+◌, ℕ, ℤ, pos, ◌+ℤ◌, negsuc, ◌^◌, Bool, true, false, if◌then◌else◌, nat_le, nat_lt, ◌&&◌, List, [], ◌∷◌, length, Option, Some, None, IsSome, IfOk, Result, Ok, Err, slice_get, get_or, refl, ◌∙◌, ap, arith}
 use Rattle.std.proofs.lemmas.Bool.Decides.{nat_tests}
 use Rattle.std.proofs.lemmas.Int.{ints}
 use Rattle.std.proofs.lemmas.List.Sums.{get_or-le-sum_by}
@@ -12,7 +12,6 @@ use Rattle.clu_tree.specs.declared.tree.Stmt.{Stmt}
 use Rattle.clu_tree.specs.declared.tree.TagArm.{TagArm, out-TagArm}
 use Rattle.clu_ops.specs.declared.op_end.OpEnd.{OpEnd}
 use Rattle.obj_region.specs.declared.fault.RegionFault.{RegionFault}
-use Rattle.obj_region.specs.declared.fault.RegionFault.TheVariants as fault
 use Rattle.obj_region.specs.Answers.{done_unless}
 use Rattle.obj_region.specs.declared.object.Obj.{Obj}
 use Rattle.obj_region.specs.declared.object.Obj.TheVariants as obj
@@ -20,11 +19,10 @@ use Rattle.obj_region.specs.Store.{Store, array_at, array_of, cells, cells_in, h
 use Rattle.machine_rules.specs.declared.item.Item.{Item}
 use Rattle.machine_rules.specs.declared.item.Item.TheVariants as i
 use Rattle.machine_rules.specs.declared.frame.Frame.{Frame}
-use Rattle.machine_rules.specs.declared.act.Act.{Act}
 use Rattle.machine_rules.specs.declared.act.StepEnd.{StepEnd}
 use Rattle.machine_rules.specs.World.{World, Next, gives}
-use Rattle.machine_rules.specs.Operations.{ended, makes_semaphore, refused, stores}
-use Rattle.machine_rules.specs.Row.{begins, each, is_tag, takes_arm, takes_others, takes_tag}
+use Rattle.machine_rules.specs.Operations.{ended, makes_semaphore}
+use Rattle.machine_rules.specs.Row.{begins, each, goes, is_tag, takes_arm, takes_tag, with}
 use Rattle.eval_objects.specs.Arms.{chosen, takes}
 use Rattle.eval_objects.specs.Seen.{count_in, makes_counted, took}
 
@@ -129,11 +127,19 @@ after_some true k next h = (refl, cc)
 after_some false k next h = cc
 
 -- the row of a round that has an element
-pub each_is : (w : World) (f : Frame) (fs : List Frame) (work : List Item) (x : List ℕ) (t : Shape) (body : List Stmt) (a : Addr) (k next : ℤ) (v : Value) → is_array (slice_get w.store a.0) ≡ true → Some next ≡ (if in_bounds (array_at w.store a.0) k then Some (k +ℤ pos 1) else None) → item_at (array_at w.store a.0) k ≡ Some v → each w f fs work x t body a k ≡ begins w f fs (i.Each x t body a next ∷ work) f.values x t v body
-each_is w f fs work x t body a k next v h e o =
+pub each_is : (w : World) (f : Frame) (fs : List Frame) (work : List Item) (x : List ℕ) (t : Shape) (body : List Stmt) (a : Addr) (k next next2 : ℤ) (v : Value) → is_array (slice_get w.store a.0) ≡ true → Some next ≡ (if in_bounds (array_at w.store a.0) k then Some (k +ℤ pos 1) else None) → item_at (array_at w.store a.0) k ≡ Some v → next2 ≡ next → each w f fs work x t body a k ≡ begins w f fs (i.Each x t body a next2 ∷ work) f.values x t v body
+each_is w f fs work x t body a k next next2 v h e o q =
     let p : (in_bounds (array_at w.store a.0) k ≡ true) × (next ≡ k +ℤ pos 1) = after_some _ _ _ e in
-    rw (h, p.0, o, p.1) refl
+    rw (h, p.0, o, q, p.1) refl
 
 -- a round that was copied is the same
-pub same_round : (x x2 : List ℕ) (t t2 : Shape) (body body2 : List Stmt) (a : Addr) (k : ℤ) (work new : List Item) → x2 ≡ x → t2 ≡ t → body2 ≡ body → new ≡ i.Each x2 t2 body2 a k ∷ work → new ≡ i.Each x t body a k ∷ work
-same_round x x2 t t2 body body2 a k work new p q r h = h ∙ rw (p, q, r) refl
+pub same_round : (x x2 : List ℕ) (t t2 : Shape) (body body2 : List Stmt) (a : Addr) (k k2 : ℤ) (work new : List Item) → x2 ≡ x → t2 ≡ t → body2 ≡ body → new ≡ i.Each x2 t2 body2 a k2 ∷ work → k2 ≡ k → new ≡ i.Each x t body a k ∷ work
+same_round x x2 t t2 body body2 a k k2 work new p q r h e = h ∙ rw (p, q, r, e) refl
+
+not_after : (b : Bool) (k : ℤ) → ((x : ℤ) → (if b then Some k else None) ≡ Some x → ⊥) → b ≡ false
+not_after true k h = absurd (h k refl)
+not_after false k h = refl
+
+-- the row behind the last round
+pub each_over : (w : World) (f : Frame) (fs : List Frame) (work : List Item) (x : List ℕ) (t : Shape) (body : List Stmt) (a : Addr) (k : ℤ) → is_array (slice_get w.store a.0) ≡ true → ((next : ℤ) → (if in_bounds (array_at w.store a.0) k then Some (k +ℤ pos 1) else None) ≡ Some next → ⊥) → each w f fs work x t body a k ≡ goes w (with f work f.values ∷ fs)
+each_over w f fs work x t body a k h n = rw (h, not_after _ _ n) refl

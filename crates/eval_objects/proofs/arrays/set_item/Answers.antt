@@ -1,5 +1,4 @@
-use Rattle.std.proofs.Common.{◌≡◌, Some, rules}
-use Rattle.obj_region.specs.Answers.{store_refusal}
+use Rattle.std.proofs.Common.{rules}
 use Rattle.eval_objects.proofs.Rows.{by_row_in, done_refused, here_with}
 use Rattle.eval_objects.proofs.arrays.set_item.Goals as goal
 
@@ -7,6 +6,4 @@ pub returns-in-Ok : goal.returns-in-Ok
 returns-in-Ok g c = here_with g.w _ _ _ _ _ c.adds.ensures (search rules)
 
 pub returns-in-Err : goal.returns-in-Err
-returns-in-Err g c =
-    let e : store_refusal (g.S.Store.seen c.args.store.now) c.in-Ref-Int.at.0 c.in-Ref-Int.index ≡ Some c.in-Err.fault = done_refused _ _ c.in-Err.ensures.answer in
-    by_row_in g.w _ _ _ _ _ c.refuse.ensures (search rules) (search rules)
+returns-in-Err g c = by_row_in g.w _ _ _ _ _ c.refuse.ensures (search (rules, done_refused _ _ c.in-Err.ensures.answer)) (search rules)
