@@ -34,9 +34,7 @@ pub fn for_int(
     };
     match (first, last) {
         (Value::Int(first), Value::Int(last)) => {
-            frame
-                .work
-                .push(Item::Next(name, shape, body, first, last))?;
+            frame.work.push(Item::Next(name, shape, body, first, last))?;
             goes(alloc, frames, frame)
         }
         _ => unreachable!(),

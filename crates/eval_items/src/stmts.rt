@@ -9,9 +9,7 @@ ghost use Rattle.machine_rules.specs.World.{World, gives, goes as goes_on};
 ghost use Rattle.machine_rules.specs.declared.item.Item.TheVariants as item;
 
 use crate::meanings::{asking_maybe, asking_once, receiving, setting, spawning, writing};
-use crate::placing::{
-    evals_then, evals_three, evals_two, operand, operands, puts, two_operands,
-};
+use crate::placing::{evals_then, evals_three, evals_two, operand, operands, puts, two_operands};
 use clu_tree::copies::copy_expr;
 use clu_tree::{Expr, Iter, Meant, Op, Remote, Shape, Sig, Stmt, Target, Text, Value};
 use eval_frames::{declare, ends, goes, leaves, unwind};
@@ -177,9 +175,7 @@ fn assigns(
         Target::Field(fields, _, _, meant) => {
             sets_field(alloc, frames, frame, fields, value, writing(meant))
         }
-        Target::Index(list, place, _, _) => {
-            stores(alloc, frames, frame, list, place, value)
-        }
+        Target::Index(list, place, _, _) => { stores(alloc, frames, frame, list, place, value) }
     }
 }
 
