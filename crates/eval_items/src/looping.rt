@@ -1,6 +1,6 @@
 //! The rounds of a `for` over numbers.
 
-ghost use Rattle.std.specs.Prelude.{◌≡◌, ◌∷◌, ◌+ℤ◌, ◌<ℤ◌, IfOk, IsSome, pos};
+ghost use Rattle.std.specs.Prelude.{◌≡◌, ◌∷◌, ◌+ℤ◌, ◌<ℤ◌, IfOk, IsSome, IsTrue, int_lt, pos};
 ghost use Rattle.clu_tree.specs.declared.value.Value.TheVariants as value;
 ghost use Rattle.machine_rules.specs.Row as rule;
 ghost use Rattle.machine_rules.specs.World.{World, gives};
@@ -54,13 +54,23 @@ pub fn next(
 ) -> Result<StepEnd, AllocError>
     ensures { IfOk result (λ end. (w : World) → rule.row_at w frame frames.old frame.work (item.Next name shape body n last) ≡ gives w end.left end.act frames.new) }
 {
-    if last < n {
+    let is_over = is_below(last, n);
+    if is_over {
         return goes(alloc, frames, frame);
     }
-    if n < last {
+    let is_more = is_below(n, last);
+    if is_more {
         return one_of_more(alloc, frames, frame, name, shape, body, n, last);
     }
     begins(alloc, frames, frame, name, shape, Value::Int(n), body)
+}
+
+/// Whether the first number is the lesser one.
+fn is_below(a: i64, b: i64) -> bool
+    ensures test { result ≡ int_lt a b }
+    ensures order { IsTrue result → a <ℤ b }
+{
+    a < b
 }
 
 /// A round after which others come. What they need is copied.
