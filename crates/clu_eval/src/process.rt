@@ -4,6 +4,7 @@ ghost use Rattle.clu_tree.specs.declared.program.Routine.{Routine};
 ghost use Rattle.clu_tree.specs.declared.tree.Stmt.{out-Stmt};
 ghost use Rattle.eval_objects.specs.Seen.{took};
 ghost use Rattle.machine_rules.specs.Row as rule;
+ghost use Rattle.machine_rules.specs.World.{World};
 
 use crate::rows::row_at;
 use clu_tree::{Program, Sig, Stmt, Value};
@@ -92,12 +93,7 @@ impl Process {
     }
 
     /// Raises an exception in a process that waited, and answers what a step answers.
-    pub fn raise(
-        &mut self,
-        alloc: Global,
-        program: &Program,
-        sig: Sig,
-    ) -> Result<StepEnd, Memory>
+    pub fn raise(&mut self, alloc: Global, program: &Program, sig: Sig) -> Result<StepEnd, Memory>
         requires goes_on { self.old ≢ [] }
         requires row { IsSome (rule.raise (rule.bare_world program.now 0) sig self.old) }
         ensures { IfOk result (λ end. rule.raise (rule.bare_world program.now 0) sig self.old ≡ took end.left end.act [] self.new) }
@@ -157,16 +153,19 @@ fn give_value(frames: &mut Stack<Frame>, value: Value) -> Result<(), Memory>
     frames.push(frame)
 }
 
-/// Raises an exception in the innermost frame.
+/// Raises an exception in the innermost frame of a process of the program.
 fn raise_in(
     alloc: Global,
     program: &Program,
     frames: &mut Stack<Frame>,
     sig: Sig,
 ) -> Result<StepEnd, Memory>
-    requires { IsSome (rule.raise (rule.bare_world program.now 0) sig frames.old) }
-    ensures { IfOk result (λ end. rule.raise (rule.bare_world program.now 0) sig frames.old ≡ took end.left end.act [] frames.new) }
+    ghost w: { World }
+    requires none { w.store ≡ [] }
+    requires row { IsSome (rule.raise w sig frames.old) }
+    ensures { IfOk result (λ end. rule.raise w sig frames.old ≡ took end.left end.act [] frames.new) }
 {
+    let _program = program;
     unwind(alloc, frames, Items::new(alloc), sig)
 }
 

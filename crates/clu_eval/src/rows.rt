@@ -1,18 +1,16 @@
 //! The row of an item, whatever it is.
 
 ghost use Rattle.std.specs.Prelude.{◌≡◌, ◌<◌, ◌^◌, IfOk, IsSome};
-ghost use Rattle.clu_eval.specs.Steps.{world_at};
-ghost use Rattle.eval_objects.specs.Seen.{took};
+ghost use Rattle.eval_objects.specs.Seen.{IsSeenAs, took};
 ghost use Rattle.machine_rules.specs.Row as rule;
+ghost use Rattle.machine_rules.specs.World.{World};
 
 use clu_tree::{Program, Value};
 use eval_items::{
-    ask_maybe, ask_once, assign, assign_node, branch, discard, enter, eval, exec, fall, for_int, give,
-    go_round, grab, guard, leave, nap, next, pick, print, raise, spawn,
+    ask_maybe, ask_once, assign, assign_node, branch, discard, enter, eval, exec, fall, for_int,
+    give, go_round, grab, guard, leave, nap, next, pick, print, raise, spawn,
 };
-use eval_objects::{
-    apply, each, for_each, get, make_array, make_record, make_tag, put, tagged,
-};
+use eval_objects::{apply, each, for_each, get, make_array, make_record, make_tag, put, tagged};
 use machine_rules::{Frame, Item, Stack, StepEnd};
 use obj_region::Store;
 use std::alloc::{AllocError, Global};
@@ -28,9 +26,14 @@ pub fn row_at<S: Store>(
     frame: Frame,
     item: Item,
 ) -> Result<StepEnd, AllocError>
+    ghost w: { World }
+    requires program { w.program ≡ program.now }
+    requires store { IsSeenAs w (S.seen store.old) }
+    requires vars { w.vars ≡ vars.now }
+    requires time { w.time ≡ time }
     requires early { time < 2 ^ 63 }
-    requires row { IsSome (rule.row_at (world_at program.now (S.seen store.old) vars.now time) frame frames.old frame.work item) }
-    ensures { IfOk result (λ end. rule.row_at (world_at program.now (S.seen store.old) vars.now time) frame frames.old frame.work item ≡ took end.left end.act (S.seen store.new).objects frames.new) }
+    requires row { IsSome (rule.row_at w frame frames.old frame.work item) }
+    ensures { IfOk result (λ end. rule.row_at w frame frames.old frame.work item ≡ took end.left end.act (S.seen store.new).objects frames.new) }
 {
     match item {
         Item::Eval(expr) => eval(alloc, vars, time, frames, frame, expr),
