@@ -22,3 +22,8 @@ chosen false x y h = cc
 pub other : (b : Bool) (x y : Option Next) → b ≡ false → (if b then x else y) ≡ y
 other true x y h = cc
 other false x y h = refl
+
+-- a row is another one of the same world
+pub by_row : (w : World) (r : Result StepEnd AllocError) (x : Option Next) (after : List Frame) (row : Option Next) → IfOk r (λ end. x ≡ gives w end.left end.act after) → row ≡ x → IfOk r (λ end. row ≡ gives w end.left end.act after)
+by_row w (Ok end) x after row h e = e ∙ h
+by_row w (Err error) x after row h e = tt

@@ -94,9 +94,7 @@ pub fn evals_three(
     ensures { IfOk result (λ end. (w : World) → rule.operands w frame frames.old frame.work (a ∷ b ∷ c ∷ []) (Some then) ≡ gives w end.left end.act frames.new) }
 {
     frame.work.push(then)?;
-    frame.work.push(Item::Eval(c))?;
-    frame.work.push(Item::Eval(b))?;
-    evals(alloc, frames, frame, a)
+    evals_two(alloc, frames, frame, a, b, Item::Eval(c))
 }
 
 /// Puts expressions before the work, to be evaluated in order.
