@@ -1,13 +1,12 @@
 -- The next arm of an `if`.
 use Rattle.std.proofs.Common.{◌≡◌, false, List, [], ◌∷◌, Option, Some, slice_get}
 use Rattle.std.specs.List.{remove}
-use Rattle.clu_tree.specs.declared.value.Value.{Value}
 use Rattle.clu_tree.specs.declared.tree.Arm.{Arm, out-Arm}
 use Rattle.clu_tree.specs.declared.tree.Stmt.{Stmt}
 use Rattle.machine_rules.specs.declared.item.Item.{Item}
 use Rattle.machine_rules.specs.declared.item.Item.TheVariants as item
 use Rattle.machine_rules.specs.declared.frame.Frame.{Frame}
-use Rattle.machine_rules.specs.Row.{branches, evals, with}
+use Rattle.machine_rules.specs.Row.{branches, evals}
 use Rattle.machine_rules.specs.World.{World}
 
 -- where a test failed, the next arm is the first one that is left, and the rest come behind it
