@@ -1,9 +1,9 @@
 -- The arguments of a routine are there where a row takes them.
-use Rattle.std.proofs.Common.{◌≡◌, ◌≤◌, ℕ, Bool, true, false, if◌then◌else◌, nat_le, List, length, take, drop, reverse, Option, Some, None, IsSome, refl}
+use Rattle.std.proofs.Common.{◌≡◌, ◌≤◌, Bool, true, false, if◌then◌else◌, nat_le, List, length, take, drop, reverse, Option, Some, None, IsSome, refl}
 use Rattle.std.proofs.lemmas.Bool.{leb-true}
 use Rattle.clu_tree.specs.declared.value.Value.{Value}
 use Rattle.clu_tree.specs.declared.program.Routine.{Routine}
-use Rattle.machine_rules.specs.Operands.{taking_args, taking_last}
+use Rattle.machine_rules.specs.Operands.{taking_args}
 use Rattle.machine_rules.specs.World.{Next}
 
 first : (b : Bool) (x : Option Next) → IsSome (if b then x else None) → b ≡ true
