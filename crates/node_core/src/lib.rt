@@ -5,7 +5,6 @@ mod limits;
 mod lines;
 mod node;
 mod start;
-mod stepping;
 mod turn;
 
 pub use node::{Node, NodeFault};
