@@ -1,4 +1,0 @@
-use Rattle.eval_items.proofs.exprs.reads.Given as goal
-
-abbrev pub ghost-fail : goal.ghost-fail
-ghost-fail g a = g.w

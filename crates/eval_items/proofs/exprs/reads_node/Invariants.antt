@@ -1,4 +1,0 @@
-use Rattle.eval_items.proofs.exprs.reads_node.Given as goal
-
-abbrev pub ghost-reads : goal.ghost-reads
-ghost-reads g a = g.w

@@ -1,4 +1,0 @@
-use Rattle.eval_items.proofs.looping.begins.Goals as goal
-
-pub returns : goal.returns
-returns c = rw (← c.in_ok-declare.ensures, ← c.in_ok-put_body.ensures) c.goes.ensures

@@ -1,4 +1,0 @@
-use Rattle.eval_objects.proofs.arrays.rem_high.Given as goal
-
-abbrev pub ghost-refuse : goal.ghost-refuse
-ghost-refuse g a = g.w
