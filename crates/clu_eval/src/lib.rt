@@ -6,6 +6,3 @@ mod rows;
 
 pub use machine_rules::{Act, RemoteAsk, StepEnd};
 pub use process::{Memory, Process};
-
-#[cfg(test)]
-mod tests;

@@ -1,19 +1,26 @@
-ghost use Rattle.std.specs.Prelude.{◌≡◌, ◌≢◌, ◌↔◌, [], Some, IfOk, IsSome, IsTrue, OnOk, slice_get};
-ghost use Rattle.clu_tree.specs.Typed.{IsTyped};
+ghost use Rattle.std.specs.Prelude.{◌≡◌, ◌≢◌, ◌↔◌, ◌<◌, ◌^◌, [], Some, IfOk, IsSome, IsTrue, OnOk, slice_get};
+ghost use Rattle.clu_eval.specs.Steps.{world_at};
 ghost use Rattle.clu_tree.specs.declared.program.Routine.{Routine};
-ghost use Rattle.machine_rules.specs.Row.{bare_world, row, start};
-ghost use Rattle.machine_rules.specs.Typing.{ArgsFit, FramesFit};
+ghost use Rattle.clu_tree.specs.declared.tree.Stmt.{out-Stmt};
+ghost use Rattle.eval_objects.specs.Seen.{took};
+ghost use Rattle.machine_rules.specs.Row as rule;
+ghost use Rattle.machine_rules.specs.World.{World};
+ghost use Rattle.obj_region.specs.Answers.{holding};
 
-use crate::rows::{entry, row_at};
-use clu_tree::{Program, Value};
-use machine_rules::{Frame, Stack, StepEnd, never_stuck};
+use crate::rows::row_at;
+use clu_tree::{Program, Sig, Stmt, Value};
+use eval_frames::{entry, stacked, unwind};
+use machine_rules::{Frame, Item, Stack, StepEnd};
+use obj_region::Store;
+use sqlite_items::Items;
 use std::alloc::{AllocError, Global};
 use std::marker::Model;
 
 /// Memory ran out.
 pub type Memory = AllocError;
 
-/// A process, which contracts see as its frames from the innermost. It is over once it has none.
+/// A process, which contracts see as its frames from the innermost. It is over once it has none. After an error of a
+/// call that changes it, it can only be dropped.
 #[derive(Drop)]
 pub struct Process {
     frames: Stack<Frame>,
@@ -38,23 +45,22 @@ impl Model for Process {
 }
 
 impl Process {
-    /// The process that calls the routine at this place of a typed program, counted from 0. It copies the body.
+    /// The process that calls the routine at this place of the program, counted from 0, with these arguments. It copies
+    /// the routine's body.
     pub fn new(
         alloc: Global,
         program: &Program,
         routine: u16,
         args: Vec<Value>,
     ) -> Result<Process, Memory>
-        requires typed { IsTyped program.now }
-        requires fits { (r : Routine) × (slice_get program.now.routines routine ≡ Some r) × ArgsFit args.items r.params }
-        ensures starts { IfOk result (λ p. (r : Routine) → slice_get program.now.routines routine ≡ Some r → p ≡ start routine r args.items) }
-        ensures fits { IfOk result (λ p. FramesFit program.now p) }
+        requires { IsSome (slice_get program.now.routines routine) }
+        ensures { IfOk result (λ p. (r : Routine) → slice_get program.now.routines routine ≡ Some r → p ≡ rule.start routine r args.items) }
     {
-        never_stuck();
         match program.routines.get(routine as usize) {
             None => unreachable!(),
             Some(r) => {
-                let frame = entry(alloc, routine, r)?;
+                let args = stacked(alloc, args)?;
+                let frame = entry(alloc, routine, r, args)?;
                 let mut frames = Stack::new(alloc);
                 frames.push(frame)?;
                 Ok(Process { frames })
@@ -62,17 +68,49 @@ impl Process {
         }
     }
 
-    /// Takes one step of a process that isn't over, at the node's time in ms. The time that it takes doesn't depend on
-    /// how much the process has still to do. After an error the process can only be dropped.
-    pub fn step(&mut self, alloc: Global, program: &Program, time: u64) -> Result<StepEnd, Memory>
-        requires typed { IsTyped program.now }
-        requires fits { FramesFit program.now self.old }
-        requires goes_on { self.old ≢ [] }
-        ensures row { IfOk result (λ end. row (bare_world program.now time) self.old ≡ Some (record { left = end.left; act = end.act; store = []; frames = self.new })) }
-        ensures fits { OnOk result (FramesFit program.now self.new) }
+    /// Takes one step of a process that has a row, over the node's objects, its variables and its time in ms. The time
+    /// that it takes doesn't depend on how much the process has still to do.
+    pub fn step<S: Store>(
+        &mut self,
+        alloc: Global,
+        program: &Program,
+        store: &mut S,
+        vars: &[Option<Value>],
+        time: u64,
+    ) -> Result<StepEnd, Memory>
+        requires early { time < 2 ^ 63 }
+        requires row { IsSome (rule.row (world_at program.now (S.seen store.old) vars.now time) self.old) }
+        ensures row { IfOk result (λ end. rule.row (world_at program.now (S.seen store.old) vars.now time) self.old ≡ took end.left end.act (S.seen store.new).objects self.new) }
+        ensures kept { S.seen store.new ≡ holding (S.seen store.old) (S.seen store.new).objects }
     {
-        never_stuck();
-        step_row(alloc, program, time, &mut self.frames)
+        step_row(alloc, program, store, vars, time, &mut self.frames)
+    }
+
+    /// Gives a value to a process that waited for it.
+    pub fn give(&mut self, value: Value) -> Result<(), Memory>
+        requires { self.old ≢ [] }
+        ensures { OnOk result (self.new ≡ rule.give value self.old) }
+    {
+        give_value(&mut self.frames, value)
+    }
+
+    /// Raises an exception in a process that waited, and answers what a step answers.
+    pub fn raise(&mut self, alloc: Global, program: &Program, sig: Sig) -> Result<StepEnd, Memory>
+        requires goes_on { self.old ≢ [] }
+        requires row { IsSome (rule.raise (rule.bare_world program.now 0) sig self.old) }
+        ensures { IfOk result (λ end. rule.raise (rule.bare_world program.now 0) sig self.old ≡ took end.left end.act [] self.new) }
+    {
+        raise_in(alloc, program, &mut self.frames, sig)
+    }
+
+    /// The line of the statement that the next step begins. None exactly where it begins none.
+    pub fn stands(&self) -> Option<u32>
+        ensures { result ≡ rule.stands self.now }
+    {
+        match self.frames.get(0) {
+            None => None,
+            Some(frame) => begun_by(&frame.work),
+        }
     }
 
     /// Whether the process is over.
@@ -83,17 +121,19 @@ impl Process {
     }
 }
 
-/// The row of typed frames, where they have one.
-fn step_row(
+/// The row of the frames, where they have one.
+fn step_row<S: Store>(
     alloc: Global,
     program: &Program,
+    store: &mut S,
+    vars: &[Option<Value>],
     time: u64,
     frames: &mut Stack<Frame>,
 ) -> Result<StepEnd, Memory>
-    requires typed { IsTyped program.now }
-    requires fits { FramesFit program.now frames.old }
-    requires row { IsSome (row (bare_world program.now time) frames.old) }
-    ensures { IfOk result (λ end. row (bare_world program.now time) frames.old ≡ Some (record { left = end.left; act = end.act; store = []; frames = frames.new })) }
+    requires early { time < 2 ^ 63 }
+    requires row { IsSome (rule.row (world_at program.now (S.seen store.old) vars.now time) frames.old) }
+    ensures row { IfOk result (λ end. rule.row (world_at program.now (S.seen store.old) vars.now time) frames.old ≡ took end.left end.act (S.seen store.new).objects frames.new) }
+    ensures kept { S.seen store.new ≡ holding (S.seen store.old) (S.seen store.new).objects }
 {
     let Some(mut frame) = frames.pop() else {
         unreachable!();
@@ -101,5 +141,68 @@ fn step_row(
     let Some(item) = frame.work.pop() else {
         unreachable!();
     };
-    row_at(alloc, program, time, frames, frame, item)
+    row_at(alloc, program, store, vars, time, frames, frame, item)
+}
+
+/// Puts a value on top of those of the innermost frame.
+fn give_value(frames: &mut Stack<Frame>, value: Value) -> Result<(), Memory>
+    requires { frames.old ≢ [] }
+    ensures { OnOk result (frames.new ≡ rule.give value frames.old) }
+{
+    let Some(mut frame) = frames.pop() else {
+        unreachable!();
+    };
+    frame.values.push(value)?;
+    frames.push(frame)
+}
+
+/// Raises an exception in the innermost frame of a process of the program.
+fn raise_in(
+    alloc: Global,
+    program: &Program,
+    frames: &mut Stack<Frame>,
+    sig: Sig,
+) -> Result<StepEnd, Memory>
+    ghost w: { World }
+    requires none { w.store ≡ [] }
+    requires row { IsSome (rule.raise w sig frames.old) }
+    ensures { IfOk result (λ end. rule.raise w sig frames.old ≡ took end.left end.act [] frames.new) }
+{
+    let _program = program;
+    unwind(alloc, frames, Items::new(alloc), sig)
+}
+
+/// The line of the statement that this work begins with, if it does and the statement has one of its own.
+fn begun_by(work: &Stack<Item>) -> Option<u32>
+    ensures { result ≡ rule.begun_by work.now }
+{
+    match work.get(0) {
+        Some(Item::Exec(stmt)) => own_line(stmt),
+        _ => None,
+    }
+}
+
+/// The line of a statement. One that stands round another has none of its own.
+fn own_line(stmt: &Stmt) -> Option<u32>
+    ensures { result ≡ rule.own_line (out-Stmt stmt.now) }
+{
+    match stmt {
+        Stmt::Declare(_, _, _, line) => Some(*line),
+        Stmt::Assign(_, _, line) => Some(*line),
+        Stmt::Remote(_, _, line, _) => Some(*line),
+        Stmt::Call(_, line) => Some(*line),
+        Stmt::PutLine(_, line) => Some(*line),
+        Stmt::Sleep(_, line) => Some(*line),
+        Stmt::Fork(_, _, line, _) => Some(*line),
+        Stmt::Return(_, line) => Some(*line),
+        Stmt::Signal(_, _, line) => Some(*line),
+        Stmt::If(_, _, _, _, line) => Some(*line),
+        Stmt::While(_, _, line) => Some(*line),
+        Stmt::For(_, _, _, _, line) => Some(*line),
+        Stmt::Tagcase(_, _, _, line) => Some(*line),
+        Stmt::Begin(_, line) => Some(*line),
+        Stmt::Region(_, _, line) => Some(*line),
+        Stmt::Except(_, _) => None,
+        Stmt::Resignal(_, _) => None,
+    }
 }

@@ -2,6 +2,7 @@
 #![tactic(auto)]
 
 mod ending;
+mod going;
 mod landing;
 mod locks;
 mod operands;
@@ -10,6 +11,7 @@ mod starts;
 mod vars;
 
 pub use ending::{acts, ends, goes};
+pub use going::{adds, begins, puts};
 pub use locks::{holds, leaves};
 pub use operands::{listed, stacked, take_last};
 pub use raising::{fail, failure, raise, signal, unwind};

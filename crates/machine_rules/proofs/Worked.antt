@@ -27,7 +27,8 @@ use Rattle.machine_rules.specs.declared.frame.Frame.{Frame}
 use Rattle.machine_rules.specs.declared.act.Act.{Act}
 use Rattle.machine_rules.specs.declared.act.Act.TheVariants as act
 use Rattle.machine_rules.specs.Row.{World, bare_world, start}
-use Rattle.machine_rules.proofs.Runs.{Ran, run, run_on}
+use Rattle.machine_rules.specs.Runs.{Ran, run}
+use Rattle.machine_rules.proofs.Runs.{run_on}
 
 -- a program of one routine with this body
 abbrev routine : List Stmt → Routine

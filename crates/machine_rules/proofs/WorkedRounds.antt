@@ -31,7 +31,8 @@ use Rattle.machine_rules.specs.declared.frame.Frame.{Frame}
 use Rattle.machine_rules.specs.declared.act.Act.TheVariants as act
 use Rattle.machine_rules.specs.Frames.{declare}
 use Rattle.machine_rules.specs.Row.{World, bare_world, entry, start}
-use Rattle.machine_rules.proofs.Runs.{Ran, run, run_on}
+use Rattle.machine_rules.specs.Runs.{Ran, run}
+use Rattle.machine_rules.proofs.Runs.{run_on}
 
 by_test : {P : Type 0} (b : Bool) → (b ≡ true → P) → (b ≡ false → P) → P
 by_test true h k = h refl

@@ -32,7 +32,8 @@ use Rattle.machine_rules.specs.declared.frame.Frame.{Frame}
 use Rattle.machine_rules.specs.declared.act.Act.{Act}
 use Rattle.machine_rules.specs.declared.act.Act.TheVariants as act
 use Rattle.machine_rules.specs.Row.{World, bare_world, entry, start}
-use Rattle.machine_rules.proofs.Runs.{Ran, run, run_on}
+use Rattle.machine_rules.specs.Runs.{Ran, run}
+use Rattle.machine_rules.proofs.Runs.{run_on}
 
 ruleset exprs = (e.outs-Literal, e.outs-Name, e.outs-Binary, e.outs-Call, e.outs-Op, e.outs-Record, e.outs-Up, e.outs-Down, e.outs-Now, e.outs-Field, e.outs-Index, out-roll-FieldInit)
 

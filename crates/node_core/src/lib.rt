@@ -5,6 +5,7 @@ mod limits;
 mod lines;
 mod node;
 mod start;
+mod stepping;
 mod turn;
 
 pub use node::{Node, NodeFault};

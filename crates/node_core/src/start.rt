@@ -8,6 +8,7 @@ ghost use Rattle.node_core.specs.Kept.{IsRunning, StartsAs};
 
 use clu_eval::Process;
 use clu_tree::{NodePart, Program, Routine, Text};
+use machine_rules::never_stuck;
 use std::alloc::{AllocError, Global};
 
 /// The number of the first of these routines that has the name.
@@ -28,6 +29,7 @@ pub fn started(alloc: Global, program: &Program) -> Result<Option<Process>, Allo
     requires { IsTyped program.now }
     ensures { IfOk result (λ process. StartsAs program.now process × IsRunning program.now process) }
 {
+    never_stuck();
     let Some(block) = program.nodes.get(0) else {
         unreachable!();
     };

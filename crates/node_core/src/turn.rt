@@ -7,8 +7,10 @@ ghost use Rattle.world_rules.specs.Plain.{join};
 ghost use Rattle.node_core.specs.Acts.{IsNoted, RanTo, after_of, noted};
 
 use crate::lines::line_of;
+use crate::stepping::step;
 use clu_eval::{Act, Process, StepEnd};
 use clu_tree::Program;
+use obj_region::Region;
 use std::alloc::{AllocError, Global};
 use world_types::{Effects, Line, Mark};
 
@@ -81,9 +83,10 @@ pub fn run(
     ensures { IfOk result (λ ran. RanTo program.now number process time limit ran) }
 {
     let mut effects = Effects::nothing(alloc);
+    let mut objects = Region::new(alloc)?;
     let mut steps = 0;
     while steps < limit {
-        let StepEnd { left: _, act } = process.step(alloc, program, time)?;
+        let StepEnd { left: _, act } = step(alloc, program, time, &mut objects, &mut process)?;
         steps += 1;
         match note(alloc, number, time, &mut effects, act)? {
             After::Ready => {}

@@ -10,6 +10,7 @@ invariant-loop-steps l = record {
   within : l.steps ≤ l.limit;
   fits : FramesFit l.program l.process;
   goes_on : l.process ≢ [];
+  none : l.objects ≡ [];
 }
 
 abbrev pub decreases-loop-steps : goal.decreases-loop-steps

@@ -1,0 +1,4 @@
+use Rattle.eval_frames.proofs.going.begins.Goals as goal
+
+pub returns : goal.returns
+returns c = rw (← c.in_ok-declare.ensures, ← c.in_ok-put_body.ensures) c.goes.ensures

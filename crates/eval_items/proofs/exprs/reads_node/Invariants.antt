@@ -1,0 +1,4 @@
+use Rattle.eval_items.proofs.exprs.reads_node.Given as goal
+
+abbrev pub ghost-reads : goal.ghost-reads
+ghost-reads g a = g.w

@@ -1,0 +1,4 @@
+use Rattle.eval_items.proofs.stmts.signals.Given as goal
+
+abbrev pub ghost-unwind : goal.ghost-unwind
+ghost-unwind g a = g.w

@@ -1,0 +1,4 @@
+use Rattle.eval_objects.proofs.making.new_array.Given as goal
+
+abbrev pub ghost-makes : goal.ghost-makes
+ghost-makes g a = g.w
