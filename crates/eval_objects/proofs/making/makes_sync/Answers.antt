@@ -2,5 +2,5 @@ use Rattle.std.proofs.Common.{rules}
 use Rattle.eval_objects.proofs.Rows.{here_with}
 use Rattle.eval_objects.proofs.making.makes_sync.Goals as goal
 
-pub returns-in_ok-push-in-Ok : goal.returns-in_ok-push-in-Ok
-returns-in_ok-push-in-Ok g c = here_with g.w _ _ _ _ _ c.acts.ensures (search rules)
+pub returns-in_ok-push-in-Ok-clause-row : goal.returns-in_ok-push-in-Ok-clause-row
+returns-in_ok-push-in-Ok-clause-row g c = here_with g.w _ _ _ _ _ c.acts.ensures (search rules)
