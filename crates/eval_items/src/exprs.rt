@@ -7,9 +7,7 @@ ghost use Rattle.machine_rules.specs.World.{World, gives};
 ghost use Rattle.machine_rules.specs.declared.item.Item.TheVariants as item;
 
 use crate::meanings::{doing, reading};
-use crate::placing::{
-    evals, evals_all, evals_fields, evals_then, operand, operands, two_operands,
-};
+use crate::placing::{evals, evals_all, evals_fields, evals_then, operand, operands, two_operands};
 use clu_tree::{Expr, Infix, Meant, Text, Value};
 use eval_frames::{adds, fail, find};
 use machine_rules::{Frame, Item, Stack, StepEnd};
