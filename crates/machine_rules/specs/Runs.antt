@@ -1,5 +1,5 @@
 -- Runs of steps: the world after each, and what is told by all.
-use Rattle.std.specs.Prelude.{◌≡◌, ℕ, zero, suc, List, [], ◌∷◌, ◌++◌, Option, Some, None, slice_set}
+use Rattle.std.specs.Prelude.{ℕ, zero, suc, List, [], ◌∷◌, ◌++◌, Option, Some, None, slice_set}
 use Rattle.clu_tree.specs.declared.value.Addr.{Addr}
 use Rattle.clu_tree.specs.declared.value.Value.{Value}
 use Rattle.machine_rules.specs.declared.frame.Frame.{Frame}
