@@ -5,5 +5,6 @@ pub mod Sound
 pub mod Worked
 pub mod WorkedLimits
 pub mod WorkedLoops
+pub mod WorkedPrograms
 pub mod WorkedRounds
 pub mod WorkedStatements

@@ -49,7 +49,7 @@ abbrev text : List ℕ → Stmt
 text t = s.PutLine (e.Literal (value.Str t) 2) 2
 
 -- one line is printed in four steps
-hello : ran 4 (text (codes "hi") ∷ []) ≡ over (text (codes "hi") ∷ []) (act.Put (codes "hi") ∷ act.Ended value.Nil ∷ [])
+pub hello : ran 4 (text (codes "hi") ∷ []) ≡ over (text (codes "hi") ∷ []) (act.Put (codes "hi") ∷ act.Ended value.Nil ∷ [])
 unfolding out-Expr out-Stmt Carrier.out
 hello = refl
 
@@ -57,17 +57,17 @@ abbrev nap_body : ℕ → List Stmt
 nap_body ms = s.Sleep (e.Literal (value.Int (pos ms)) 2) 2 ∷ text (codes "up") ∷ []
 
 -- a sleep takes three steps, and goes on behind it
-nap : ran 7 (nap_body 100) ≡ over (nap_body 100) (act.Sleep (pos 100) ∷ act.Put (codes "up") ∷ act.Ended value.Nil ∷ [])
+pub nap : ran 7 (nap_body 100) ≡ over (nap_body 100) (act.Sleep (pos 100) ∷ act.Put (codes "up") ∷ act.Ended value.Nil ∷ [])
 unfolding out-Expr out-Stmt Carrier.out
 nap = refl
 
 -- a sleep of no time doesn't wait
-no_nap : ran 7 (nap_body 0) ≡ over (nap_body 0) (act.Put (codes "up") ∷ act.Ended value.Nil ∷ [])
+pub no_nap : ran 7 (nap_body 0) ≡ over (nap_body 0) (act.Put (codes "up") ∷ act.Ended value.Nil ∷ [])
 unfolding out-Expr out-Stmt Carrier.out
 no_nap = refl
 
 -- an empty body takes one step
-nothing : ran 1 [] ≡ over [] (act.Ended value.Nil ∷ [])
+pub nothing : ran 1 [] ≡ over [] (act.Ended value.Nil ∷ [])
 nothing = refl
 
 -- ---- quotients, remainders, an overflow and a bound
@@ -186,7 +186,7 @@ abbrev arith_acts : List Act
 arith_acts = act.Put (codes "-4") ∷ act.Put (codes "1") ∷ act.Put (codes "overflow") ∷ act.Put (codes "bounds") ∷ act.Ended value.Nil ∷ []
 
 -- four lines in 54 steps
-arith_steps : ran 54 arith_body ≡ Some (record { world = made (world arith_body); frames = []; acts = arith_acts; left = [] })
+pub arith_steps : ran 54 arith_body ≡ Some (record { world = made (world arith_body); frames = []; acts = arith_acts; left = [] })
 arith_steps =
     let w = world arith_body in
     let last = i.Exec third ∷ i.Fall ∷ [] in
