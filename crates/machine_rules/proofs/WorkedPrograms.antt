@@ -269,29 +269,29 @@ region_world = world region_body []
 abbrev l : Var
 l = var (codes "l") shape.Lock (value.Ref (at 0))
 
-abbrev open : World
-open = holding region_world obj.Lock
+abbrev with_lock : World
+with_lock = holding region_world obj.Lock
 
 abbrev inside : List Item
 inside = i.Leave (at 0) ∷ i.Fall ∷ []
 
 -- Exec, Eval, Apply, Assign
-lock_steps : run 4 region_world (begins region_body) ≡ did open (act.MakeSync (at 0) 0 ∷ []) (i.Exec locked ∷ i.Fall ∷ []) (l ∷ [])
+lock_steps : run 4 region_world (begins region_body) ≡ did with_lock (act.MakeSync (at 0) 0 ∷ []) (i.Exec locked ∷ i.Fall ∷ []) (l ∷ [])
 lock_steps = simp (s.outs-Declare, e.outs-Op) refl
 
 -- Exec, Eval, Grab
-enter_steps : run 3 open (frame (i.Exec locked ∷ i.Fall ∷ []) (l ∷ []) [] ∷ []) ≡ did open (act.Enter (at 0) ∷ []) (i.Exec (text (codes "in")) ∷ inside) (l ∷ [])
+enter_steps : run 3 with_lock (frame (i.Exec locked ∷ i.Fall ∷ []) (l ∷ []) [] ∷ []) ≡ did with_lock (act.Enter (at 0) ∷ []) (i.Exec (text (codes "in")) ∷ inside) (l ∷ [])
 enter_steps = simp (s.outs-Region, e.outs-Name) refl
 
 -- Leave, Fall
-leave_steps : run 2 open (frame inside (l ∷ []) [] ∷ []) ≡ Some (record { world = open; frames = []; acts = act.Ended value.Nil ∷ []; left = at 0 ∷ [] })
+leave_steps : run 2 with_lock (frame inside (l ∷ []) [] ∷ []) ≡ Some (record { world = with_lock; frames = []; acts = act.Ended value.Nil ∷ []; left = at 0 ∷ [] })
 leave_steps = refl
 
 abbrev region_acts : List Act
 region_acts = act.MakeSync (at 0) 0 ∷ act.Enter (at 0) ∷ act.Put (codes "in") ∷ act.Ended value.Nil ∷ []
 
-pub region_steps : run 12 region_world (begins region_body) ≡ Some (record { world = open; frames = []; acts = region_acts; left = at 0 ∷ [] })
+pub region_steps : run 12 region_world (begins region_body) ≡ Some (record { world = with_lock; frames = []; acts = region_acts; left = at 0 ∷ [] })
 region_steps =
     run_on 4 8 _ region_world (begins region_body) _ lock_steps
-    (run_on 3 5 _ open (frame (i.Exec locked ∷ i.Fall ∷ []) (l ∷ []) [] ∷ []) _ enter_steps
-    (run_on 3 2 _ open (frame (i.Exec (text (codes "in")) ∷ inside) (l ∷ []) [] ∷ []) _ (text_steps open (codes "in") inside (l ∷ [])) leave_steps))
+    (run_on 3 5 _ with_lock (frame (i.Exec locked ∷ i.Fall ∷ []) (l ∷ []) [] ∷ []) _ enter_steps
+    (run_on 3 2 _ with_lock (frame (i.Exec (text (codes "in")) ∷ inside) (l ∷ []) [] ∷ []) _ (text_steps with_lock (codes "in") inside (l ∷ [])) leave_steps))
