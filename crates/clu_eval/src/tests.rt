@@ -364,14 +364,14 @@ fn act_told(alloc: Global, act: &Act) -> Result<String, Memory> {
     }
 }
 
-/// Adds what a step told: the locks that it gave back, and its act, if the process didn't just go on.
-fn tell(alloc: Global, end: &StepEnd, told: &mut String) -> Result<(), Memory> {
+/// Adds what a step told, with its number: the locks that it gave back, and its act, if the process didn't just go on.
+fn tell(alloc: Global, step: u32, end: &StepEnd, told: &mut String) -> Result<(), Memory> {
     for at in end.left.as_slice() {
-        write!(told, "left {}; ", at.0)?;
+        write!(told, "{step} left {}; ", at.0)?;
     }
     if !matches!(&end.act, Act::Went) {
         let act = act_told(alloc, &end.act)?;
-        write!(told, "{act}; ")?;
+        write!(told, "{step} {act}; ")?;
     }
     Ok(())
 }
@@ -383,9 +383,9 @@ fn told(alloc: Global, program: &Program, steps: u32) -> Result<String, Memory>
     let mut process = Process::new(alloc, program, 0, Vec::new(alloc))?;
     let mut store = Region::new(alloc)?;
     let mut told = String::new(alloc);
-    for _ in 0..steps {
+    for step in 0..steps {
         let end = process.step(alloc, program, &mut store, &[], 0)?;
-        tell(alloc, &end, &mut told)?;
+        tell(alloc, step + 1, &end, &mut told)?;
     }
     if process.is_over() {
         told.push_str("over")?;
@@ -507,18 +507,24 @@ fn region(alloc: Global) -> Result<String, Memory> {
 fn steps_are_counted_and_told(rt: HostRuntime) -> Result<(), Fail> {
     let alloc = rt.alloc();
     for (got, want) in [
-        (nothing(alloc)?, "ended; over"),
-        (hello(alloc)?, "hi; ended; over"),
-        (nap(alloc)?, "sleep 100; up; ended; over"),
-        (no_nap(alloc)?, "up; ended; over"),
-        (arithmetic(alloc)?, "-4; 1; overflow; bounds; ended; over"),
-        (sum(alloc)?, "5; ended; over"),
+        (nothing(alloc)?, "1 ended; over"),
+        (hello(alloc)?, "3 hi; 4 ended; over"),
+        (nap(alloc)?, "3 sleep 100; 6 up; 7 ended; over"),
+        (no_nap(alloc)?, "6 up; 7 ended; over"),
+        (
+            arithmetic(alloc)?,
+            "10 -4; 20 1; 37 overflow; 53 bounds; 54 ended; over",
+        ),
+        (sum(alloc)?, "14 5; 15 ended; over"),
         (
             signals(alloc)?,
-            "bad; failure (unhandled exception: bad); over",
+            "8 bad; 12 failure (unhandled exception: bad); over",
         ),
-        (elements(alloc)?, "5; 7; ended; over"),
-        (region(alloc)?, "sync 0 0; enter 0; in; left 0; ended; over"),
+        (elements(alloc)?, "21 5; 27 7; 29 ended; over"),
+        (
+            region(alloc)?,
+            "3 sync 0 0; 7 enter 0; 10 in; 11 left 0; 12 ended; over",
+        ),
     ] {
         assert_eq!(rt; got.as_str(), want);
     }
