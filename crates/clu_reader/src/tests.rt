@@ -1,6 +1,9 @@
+mod show;
+
 use super::*;
 use clu_text::tokens;
 use clu_tree::{Expr, NodePart, Program, Stmt, Value};
+use show::Shown;
 use std::alloc::{AllocError, Global};
 use std::process::Abort;
 use std::test::Fail;
@@ -316,7 +319,7 @@ fn reads_each_statement(rt: HostRuntime) -> Result<(), Fail> {
 
 #[test]
 fn looks_ahead_behind_brackets(rt: HostRuntime) -> Result<(), Fail> {
-    let table: [(&[u8], Result<(), u32>); 18] = [
+    let table: [(&[u8], Result<(), u32>); 27] = [
         (b"y := y\n(x).f := 2", Ok(())),
         (b"y := y (x).f := 2", Ok(())),
         (b"y := y (x)[1].g := 2", Ok(())),
@@ -335,6 +338,15 @@ fn looks_ahead_behind_brackets(rt: HostRuntime) -> Result<(), Fail> {
         (b"x: int\n(y).f := 1", Ok(())),
         (b"f()\n(x).f := 2", Ok(())),
         (b"y := a[f (x)] (z).h := 1", Ok(())),
+        (b"return ((a)).b := 1", Ok(())),
+        (b"signal n (a.b)[c].d := 1", Ok(())),
+        (b"y := y\n(x) := 2", Err(3)),
+        (b"return\n(x) := 2", Err(3)),
+        (b"signal n\n(x) := 2", Err(3)),
+        (b"f(x)\n.g", Err(3)),
+        (b"y := y (x)\n(z)", Err(3)),
+        (b"return (a)\n.b", Err(3)),
+        (b"y := y (x].f := 1", Err(2)),
     ];
     for (text, wanted) in table {
         let read = statement(&rt, rt.alloc(), text)?;
@@ -439,7 +451,7 @@ fn refuses_each_expression(rt: HostRuntime) -> Result<(), Fail> {
 
 #[test]
 fn refuses_each_statement(rt: HostRuntime) -> Result<(), Fail> {
-    let table: [(&[u8], Result<(), u32>); 37] = [
+    let table: [(&[u8], Result<(), u32>); 47] = [
         (b"x", Err(2)),
         (b"x :=", Err(2)),
         (b"x:", Err(2)),
@@ -477,6 +489,16 @@ fn refuses_each_statement(rt: HostRuntime) -> Result<(), Fail> {
         (b"sleep", Err(2)),
         (b"sleep()", Err(2)),
         (b"sleep 1", Err(2)),
+        (b"up(x)", Err(2)),
+        (b"now()", Err(2)),
+        (b"t${a: 1}", Err(2)),
+        (b"t$[1]", Err(2)),
+        (b"put_line := 1", Err(2)),
+        (b"end := 1", Err(2)),
+        (b"x.f := once p() at 1", Err(2)),
+        (b"x: int := once p() at 1", Err(2)),
+        (b"x := fork p()", Err(2)),
+        (b"maybe p() within 1 at 1", Err(2)),
     ];
     for (text, wanted) in table {
         let read = statement(&rt, rt.alloc(), text)?;
@@ -487,7 +509,7 @@ fn refuses_each_statement(rt: HostRuntime) -> Result<(), Fail> {
 
 #[test]
 fn refuses_each_body(rt: HostRuntime) -> Result<(), Fail> {
-    let table: [(&[u8], Result<(), u32>); 37] = [
+    let table: [(&[u8], Result<(), u32>); 43] = [
         (b"put_line()", Err(2)),
         (b"put_line(\"a\"", Err(2)),
         (b"f() except", Err(2)),
@@ -525,6 +547,12 @@ fn refuses_each_body(rt: HostRuntime) -> Result<(), Fail> {
         (b"region l end", Err(2)),
         (b"end", Err(2)),
         (b"else", Err(2)),
+        (b"f() except when a, : end", Err(2)),
+        (b"f() except when a (x: int) end", Err(2)),
+        (b"for i: int in int$from_to(1, 2, 3) do end", Err(2)),
+        (b"for i: int in t$elements() do end", Err(2)),
+        (b"tagcase x tag a (y): end", Err(2)),
+        (b"if a then else elseif b then end", Err(2)),
     ];
     for (text, wanted) in table {
         let read = statement(&rt, rt.alloc(), text)?;
@@ -535,7 +563,7 @@ fn refuses_each_body(rt: HostRuntime) -> Result<(), Fail> {
 
 #[test]
 fn reads_each_part(rt: HostRuntime) -> Result<(), Fail> {
-    let table: [(&[u8], Result<(), u32>); 22] = [
+    let table: [(&[u8], Result<(), u32>); 24] = [
         (b"", Ok(())),
         (b"a = int", Ok(())),
         (b"a = record[b: c]", Ok(())),
@@ -570,6 +598,14 @@ fn reads_each_part(rt: HostRuntime) -> Result<(), Fail> {
             Ok(()),
         ),
         (b"node 1 is end node 2 is end a = proc () end a", Ok(())),
+        (
+            b"nodevar a: bool := false nodevar b: int := - 9223372036854775807",
+            Ok(()),
+        ),
+        (
+            b"a = cluster is print rep = null end a b = string c = bool d = semaphore e = lock",
+            Ok(()),
+        ),
     ];
     for (text, wanted) in table {
         let read = program(&rt, rt.alloc(), text)?;
@@ -580,7 +616,7 @@ fn reads_each_part(rt: HostRuntime) -> Result<(), Fail> {
 
 #[test]
 fn refuses_each_part(rt: HostRuntime) -> Result<(), Fail> {
-    let table: [(&[u8], Result<(), u32>); 42] = [
+    let table: [(&[u8], Result<(), u32>); 48] = [
         (b"a", Err(1)),
         (b"a =", Err(1)),
         (b"a =\n1", Err(2)),
@@ -623,6 +659,12 @@ fn refuses_each_part(rt: HostRuntime) -> Result<(), Fail> {
         (b"node 1 is a() end", Err(1)),
         (b"node 1 is end end", Err(1)),
         (b"end", Err(1)),
+        (b"a = proc () signals (f) returns (int) end a", Err(1)),
+        (b"a = proc () signals (f,) end a", Err(1)),
+        (b"a = cluster is b, rep = int end a", Err(1)),
+        (b"end = proc () end end", Err(1)),
+        (b"nodevar a: record[b: int] := record[b: int]$new()", Err(1)),
+        (b"node 1 is start a(-nil) end", Err(1)),
     ];
     for (text, wanted) in table {
         let read = program(&rt, rt.alloc(), text)?;
@@ -656,7 +698,7 @@ fn nested(
 
 #[test]
 fn nests_200_deep(rt: HostRuntime) -> Result<(), Fail> {
-    let ways: [(&[u8], &[u8], &[u8], &[u8], usize); 30] = [
+    let ways: [(&[u8], &[u8], &[u8], &[u8], usize); 41] = [
         (b"x := ", b"-", b"1", b"", 198),
         (b"x := ", b"~", b"a", b"", 198),
         (b"x := 1", b"+1", b"", b"", 198),
@@ -687,6 +729,17 @@ fn nests_200_deep(rt: HostRuntime) -> Result<(), Fail> {
         (b"", b"return except others: ", b"", b" end", 199),
         (b"", b"f(", b"1", b")", 198),
         (b"a", b".b", b".c := 1", b"", 198),
+        (b"x := ", b"(-", b"1", b")", 198),
+        (b"x := ", b"down(", b"1", b")", 198),
+        (b"", b"if a then elseif b then ", b"", b" end", 199),
+        (b"", b"return except when a: ", b"", b" end", 199),
+        (b"return (", b"-", b"1)", b"", 198),
+        (b"signal n (", b"-", b"1)", b"", 198),
+        (b"fork f(", b"-", b"1)", b"", 198),
+        (b"once f(", b"-", b"1) at 1", b"", 198),
+        (b"once f() at ", b"-", b"1", b"", 198),
+        (b"maybe f() at 1 within ", b"-", b"1", b"", 198),
+        (b"a[", b"-", b"1] := 2", b"", 198),
     ];
     for way in &ways {
         assert_eq!(rt;
@@ -758,6 +811,187 @@ fn reads_the_lines_of_hello(rt: HostRuntime) -> Result<(), Fail> {
             }
         }
         _ => panic!(rt; "another program"),
+    }
+    no_text_has_two_trees();
+    Ok(())
+}
+
+/// A program of a type that is nested so often, with what stands round it.
+fn nested_type(
+    rt: &impl Abort,
+    alloc: Global,
+    before: &[u8],
+    count: usize,
+    behind: &[u8],
+) -> Result<Result<(), u32>, Fail> {
+    let opened = repeated(alloc, before, b"array[", count, b"int")?;
+    let whole = repeated(alloc, opened.as_slice(), b"]", count, behind)?;
+    program(rt, alloc, whole.as_slice())
+}
+
+#[test]
+fn types_nest_200_deep(rt: HostRuntime) -> Result<(), Fail> {
+    let places: [(&[u8], &[u8]); 8] = [
+        (b"a = ", b""),
+        (b"nodevar a: ", b""),
+        (b"nodevar a: int := array[", b"]$new()"),
+        (b"a = proc (b: ", b") end a"),
+        (b"a = proc () returns (", b") end a"),
+        (b"a = proc () signals (b (", b")) end a"),
+        (b"a = cluster is b rep = ", b" end a"),
+        (
+            b"a = cluster is b rep = int b = proc (c: ",
+            b") end b end a",
+        ),
+    ];
+    for (before, behind) in places {
+        let deep = nested_type(&rt, rt.alloc(), before, 199, behind)?;
+        assert_eq!(rt; deep, Ok(()), "{}", before.escape_ascii());
+        let deeper = nested_type(&rt, rt.alloc(), before, 200, behind)?;
+        assert_eq!(rt; deeper, Err(1), "{}", before.escape_ascii());
+    }
+    Ok(())
+}
+
+#[test]
+fn names_the_line_where_reading_fails(rt: HostRuntime) {
+    let table: [(&[u8], u32); 14] = [
+        (b"a = proc ()\n  x := 1 +\n  * 2\nend a", 3),
+        (b"a = proc ()\n  put_line(\"x\n  f()\nend a", 2),
+        (b"a = proc ()\n  x := 'ab'\nend a", 2),
+        (
+            b"a = proc ()\n  x := 1\n  y := 9223372036854775808\nend a",
+            3,
+        ),
+        (b"a = proc ()\n  X := 1\nend a", 2),
+        (b"a = proc ()\n  f(1,\n    2\n  g()\nend a", 4),
+        (b"a = proc ()\n  f(1,\n    2))\nend a", 3),
+        (
+            b"a = proc ()\n  if b then\n  else\n  elseif c then\n  end\nend a",
+            4,
+        ),
+        (
+            b"a = proc ()\n  while b do\n    f()\nend a\n\nnode 1 is end\n",
+            6,
+        ),
+        (b"a = proc ()\n  f()\n  end\nend a", 4),
+        (b"a = proc ()\n  return (1\n\nend a\n\n", 4),
+        (
+            b"a = proc ()\nend a\nnode 1 is\n  start a()\n  stop\nend",
+            5,
+        ),
+        (b"a = proc ()\nend a\nnode 1 is\n  start a()\n\n", 5),
+        (
+            b"a = cluster is b\n  rep = int\n  b = proc ()\n  end c\nend a",
+            4,
+        ),
+    ];
+    for (text, line) in table {
+        assert_eq!(rt;
+            answer(&rt, rt.alloc(), text),
+            Err(line),
+            "{}",
+            text.escape_ascii()
+        );
+    }
+}
+
+/// A program as its tree says it.
+fn shown(rt: &impl Abort, alloc: Global, text: &[u8]) -> Result<Shown, Fail> {
+    assert!(rt; text.len() <= 1048576);
+    let found = tokens(alloc, text)?;
+    let program = read_program(alloc, text, found.as_slice())?;
+    let mut shown = Shown::new(alloc);
+    shown.program(&program)?;
+    Ok(shown)
+}
+
+#[test]
+fn reads_statements_as_their_trees(rt: HostRuntime) -> Result<(), Fail> {
+    let table: [(&[u8], &str); 12] = [
+        (
+            b"x: int\ny: array[t] :=\nz",
+            "x: int@2 y: array[t] := z@4@3",
+        ),
+        (
+            b"x := y\nx.f\n:= y\nx[y]\n:= z",
+            "x@2 := y@2@2 x@3.f@3 := y@4@3 x@5[y@5]@5 := z@6@5",
+        ),
+        (
+            b"x := once f(a,\nb) at c\nonce g() at\nd",
+            "x := once f(a@2, b@3)@2 at c@3@2 once g()@4 at d@5@4",
+        ),
+        (
+            b"x :=\nmaybe f(a) at b within c\nmaybe g() at d\nwithin e",
+            "x := maybe f(a@3)@3 at b@3 within c@3@2 maybe g()@4 at d@4 within e@5@4",
+        ),
+        (
+            b"f(a,\nb)\nput_line(\na)\nsleep(\nb)\nfork f(a,\nb)",
+            "call f(a@2, b@3)@2@2 put_line a@5@4 sleep b@7@6 fork f(a@8, b@9)@8",
+        ),
+        (
+            b"return\nreturn (\na)\nsignal n\nsignal m (\na)",
+            "return@2 return a@4@3 signal n@5 signal m a@7@6",
+        ),
+        (
+            b"if a then f()\nelseif b then g()\nelseif c then\nelse h() end\nif d then end",
+            "if a@2{ call f()@2@2 } elseif b@3{ call g()@3@3 } elseif c@4{ } else{ call h()@5@5 }@2 if d@6{ }@6",
+        ),
+        (
+            b"while\na do f() end\nregion\nb do g() end\nbegin\nh() i() end",
+            "while a@3{ call f()@3@3 }@2 region b@5{ call g()@5@5 }@4 begin{ call h()@7@7 call i()@7@7 }@6",
+        ),
+        (
+            b"for i: int in\nint$from_to(a,\nb) do f() end\nfor x: t in\narray[t]$elements(a) do g() end",
+            "for i: int in from a@3 to b@4@3{ call f()@4@4 }@2 for x: t in array[t] of a@6@6{ call g()@6@6 }@5",
+        ),
+        (
+            b"tagcase a\ntag b: f()\ntag c (y: t): g()\nothers: h() end\ntagcase d end",
+            "tagcase a@2 tag b{ call f()@3@3 } tag c (y: t){ call g()@4@4 } others{ call h()@5@5 }@2 tagcase d@6@6",
+        ),
+        (
+            b"f() except\nwhen a, b (x: int): g()\nwhen c:\nothers: h() end",
+            "(call f()@2@2 except when a, b (x: int){ call g()@3@3 } when c{ } others{ call h()@5@5 })",
+        ),
+        (
+            b"return\nresignal a, b\nexcept when c: end resignal d",
+            "(((return@2 resignal a, b) except when c{ }) resignal d)",
+        ),
+    ];
+    for (text, wanted) in table {
+        let whole = repeated(rt.alloc(), b"p = proc ()\n", text, 1, b"\nend p")?;
+        let found = shown(&rt, rt.alloc(), whole.as_slice())?;
+        let wanted = format!(in rt.alloc(); "p()@1 {{ {wanted} }}; ")?;
+        assert_eq!(rt; found.as_slice(), wanted.as_bytes());
+    }
+    Ok(())
+}
+
+#[test]
+fn reads_programs_as_their_trees(rt: HostRuntime) -> Result<(), Fail> {
+    let table: [(&[u8], &str); 6] = [
+        (b"", ""),
+        (b"a\n= int b = array[c]", "a = int@1; b = array[c]@2; "),
+        (
+            b"nodevar a: t\nnodevar\nb: int := -5 nodevar c: lock := lock$create()\nnodevar d: semaphore := semaphore$create(3) nodevar e: array[t] := array[u]$new()",
+            "nodevar a: t@1; nodevar b: int := -5@2; nodevar c: ? := lock@3; nodevar d: ? := semaphore 3@4; nodevar e: array[t] := none of u@4; ",
+        ),
+        (
+            b"p = proc (a: int, b: t)\nreturns (string) signals (e, f (u)) return (a) end p\nq =\nproc () end q",
+            "p(a: int, b: t) returns string signals e signals f with u@1 { return a@2@2 }; q()@3 { }; ",
+        ),
+        (
+            b"p = proc () end p\nc = cluster is f, g rep = array[int] f = proc (x: cvt) end f\ng = proc () returns (cvt) end g end c\nq = proc () end q d = cluster is h rep = t end d",
+            "p()@1 { }; f(x: cvt)@2 { }; g() returns cvt@3 { }; q()@4 { }; c is f, g rep array[int] from 1 count 2@2; d is h rep t from 4 count 0@4; ",
+        ),
+        (
+            b"node 1 is start p(1, -2, nil, true, 'a', \"b\")\nexport q export\nr end node\n7 is end",
+            "node 1@1 start p 1 -2 nil true '97 \"b@1 export q@2 export r@2; node 7@3; ",
+        ),
+    ];
+    for (text, wanted) in table {
+        let found = shown(&rt, rt.alloc(), text)?;
+        assert_eq!(rt; found.as_slice(), wanted.as_bytes());
     }
     no_text_has_two_trees();
     Ok(())
