@@ -9,7 +9,7 @@ use std::process::Abort;
 use std::test::Fail;
 
 /// Programs of many forms, as a user would write them.
-const PROGRAMS: [(&str, &[u8]); 12] = [
+const PROGRAMS: [(&str, &[u8]); 14] = [
     (
         "hello",
         b"hello = proc ()\n  put_line(\"hi\")\nend hello\nnode 1 is start hello() end",
@@ -57,6 +57,14 @@ const PROGRAMS: [(&str, &[u8]); 12] = [
     (
         "bank",
         b"acct = cluster is make, add, print\n  rep = record[sum: int]\n  make = proc (n: int) returns (cvt)\n    return (rep${sum: n})\n  end make\n  add = proc (a: cvt, n: int) returns (int)\n    a.sum := a.sum + n\n    return (a.sum)\n  end add\n  print = proc (a: cvt) returns (string)\n    return (\"sum \" || int$unparse(a.sum))\n  end print\nend acct\nnodevar guard: lock := lock$create()\nnodevar book: array[acct] := array[acct]$new()\nnodevar left: int := 2\nmove = proc (source: int, n: int)\n  region guard do\n    if array[acct]$size(book) = 0 then\n      array[acct]$addh(book, acct$make(100))\n      array[acct]$addh(book, acct$make(100))\n    end\n    acct$add(book[source], -n)\n    acct$add(book[3 - source], n)\n  end\nend move\nclose = proc ()\n  region guard do\n    left := left - 1\n    if left = 0 then\n      put_line(acct$print(book[1]) || \", \" || acct$print(book[2]))\n    end\n  end\nend close\nteller = proc (source: int, n: int)\n  for i: int in int$from_to(1, 10) do\n    once move(source, n) at 3\n  end\n  once close() at 3\nend teller\nnode 1 is start teller(1, 3) end\nnode 2 is start teller(2, 1) end\nnode 3 is export move export close end",
+    ),
+    (
+        "sema",
+        b"nodevar s: semaphore := semaphore$create(0)\np = proc ()\n  if semaphore$wait_for(s, 50) then put_line(\"got\") else put_line(\"late\") end\nend p\nq = proc ()\n  sleep(20)\n  semaphore$signal(s)\nend q\nnode 1 is start p() start q() end",
+    ),
+    (
+        "forks",
+        b"c = proc ()\n  sleep(1000000)\nend c\np = proc (n: int)\n  for i: int in int$from_to(1, n) do fork c() end\n    except when failure (s: string): put_line(s) end\nend p\nnode 1 is start p(1024) end",
     ),
 ];
 
@@ -121,7 +129,7 @@ fn statements(program: &Program) -> usize {
 
 #[test]
 fn accepts_and_refuses(rt: HostRuntime) {
-    let table: [(&[u8], Result<usize, u32>); 34] = [
+    let table: [(&[u8], Result<usize, u32>); 37] = [
         (HELLO, Ok(1)),
         (b"node 1 is end", Ok(0)),
         (b"node 01 is end", Ok(0)),
@@ -172,6 +180,12 @@ fn accepts_and_refuses(rt: HostRuntime) {
         (b"a = proc () end a\nnode 1 is\nstart b() end", Err(3)),
         (
             b"a = proc () end a\nnode 1 is start a()\nstart a() end",
+            Err(3),
+        ),
+        (b"a = proc ()\n  x := 'ab'\nend a", Err(2)),
+        (b"a = proc ()\n  X := 1\nend a", Err(2)),
+        (
+            b"a = proc ()\n  x := 1\n  y := 9223372036854775808\nend a",
             Err(3),
         ),
     ];
@@ -407,7 +421,7 @@ fn reads_each_expression(rt: HostRuntime) -> Result<(), Fail> {
 
 #[test]
 fn refuses_each_expression(rt: HostRuntime) -> Result<(), Fail> {
-    let table: [(&[u8], Result<(), u32>); 33] = [
+    let table: [(&[u8], Result<(), u32>); 47] = [
         (b"a < b < c", Err(2)),
         (b"a = b = c", Err(2)),
         (b"a +", Err(2)),
@@ -441,6 +455,20 @@ fn refuses_each_expression(rt: HostRuntime) -> Result<(), Fail> {
         (b"array[int]", Err(2)),
         (b"if", Err(2)),
         (b"a := b", Err(2)),
+        (b"a | | b", Err(2)),
+        (b"a cor", Err(2)),
+        (b"a & & b", Err(2)),
+        (b"a cand", Err(2)),
+        (b"a <", Err(2)),
+        (b"a ~= b = c", Err(2)),
+        (b"a - || b", Err(2)),
+        (b"a * / b", Err(2)),
+        (b"* a", Err(2)),
+        (b"a //", Err(2)),
+        (b"down x", Err(2)),
+        (b"down(1", Err(2)),
+        (b"t${f 1}", Err(2)),
+        (b"a[1)", Err(2)),
     ];
     for (text, wanted) in table {
         let read = expression(&rt, rt.alloc(), text)?;
@@ -451,7 +479,7 @@ fn refuses_each_expression(rt: HostRuntime) -> Result<(), Fail> {
 
 #[test]
 fn refuses_each_statement(rt: HostRuntime) -> Result<(), Fail> {
-    let table: [(&[u8], Result<(), u32>); 47] = [
+    let table: [(&[u8], Result<(), u32>); 56] = [
         (b"x", Err(2)),
         (b"x :=", Err(2)),
         (b"x:", Err(2)),
@@ -499,6 +527,15 @@ fn refuses_each_statement(rt: HostRuntime) -> Result<(), Fail> {
         (b"x: int := once p() at 1", Err(2)),
         (b"x := fork p()", Err(2)),
         (b"maybe p() within 1 at 1", Err(2)),
+        (b"x. := 1", Err(2)),
+        (b"x[1 := 2", Err(2)),
+        (b"x: oneof[]", Err(2)),
+        (b"x: oneof[a]", Err(2)),
+        (b"x: array int", Err(2)),
+        (b"t$op", Err(2)),
+        (b"t$op := 1", Err(2)),
+        (b"put_line", Err(2)),
+        (b"fork f() at 1", Err(2)),
     ];
     for (text, wanted) in table {
         let read = statement(&rt, rt.alloc(), text)?;
@@ -509,7 +546,7 @@ fn refuses_each_statement(rt: HostRuntime) -> Result<(), Fail> {
 
 #[test]
 fn refuses_each_body(rt: HostRuntime) -> Result<(), Fail> {
-    let table: [(&[u8], Result<(), u32>); 43] = [
+    let table: [(&[u8], Result<(), u32>); 49] = [
         (b"put_line()", Err(2)),
         (b"put_line(\"a\"", Err(2)),
         (b"f() except", Err(2)),
@@ -553,6 +590,12 @@ fn refuses_each_body(rt: HostRuntime) -> Result<(), Fail> {
         (b"for i: int in t$elements() do end", Err(2)),
         (b"tagcase x tag a (y): end", Err(2)),
         (b"if a then else elseif b then end", Err(2)),
+        (b"for i: int in array[int]$from_to(1, 2) do end", Err(2)),
+        (b"f() except end end", Err(2)),
+        (b"except end", Err(2)),
+        (b"resignal a", Err(2)),
+        (b"when a: end", Err(2)),
+        (b"others: end", Err(2)),
     ];
     for (text, wanted) in table {
         let read = statement(&rt, rt.alloc(), text)?;
@@ -616,7 +659,7 @@ fn reads_each_part(rt: HostRuntime) -> Result<(), Fail> {
 
 #[test]
 fn refuses_each_part(rt: HostRuntime) -> Result<(), Fail> {
-    let table: [(&[u8], Result<(), u32>); 48] = [
+    let table: [(&[u8], Result<(), u32>); 52] = [
         (b"a", Err(1)),
         (b"a =", Err(1)),
         (b"a =\n1", Err(2)),
@@ -665,6 +708,10 @@ fn refuses_each_part(rt: HostRuntime) -> Result<(), Fail> {
         (b"end = proc () end end", Err(1)),
         (b"nodevar a: record[b: int] := record[b: int]$new()", Err(1)),
         (b"node 1 is start a(-nil) end", Err(1)),
+        (b"node", Err(1)),
+        (b"nodevar a: int := ()", Err(1)),
+        (b"a = cluster is b rep = int b = proc () end b", Err(1)),
+        (b"node 1 is export a, b end", Err(1)),
     ];
     for (text, wanted) in table {
         let read = program(&rt, rt.alloc(), text)?;
@@ -698,7 +745,7 @@ fn nested(
 
 #[test]
 fn nests_200_deep(rt: HostRuntime) -> Result<(), Fail> {
-    let ways: [(&[u8], &[u8], &[u8], &[u8], usize); 41] = [
+    let ways: [(&[u8], &[u8], &[u8], &[u8], usize); 60] = [
         (b"x := ", b"-", b"1", b"", 198),
         (b"x := ", b"~", b"a", b"", 198),
         (b"x := 1", b"+1", b"", b"", 198),
@@ -740,6 +787,25 @@ fn nests_200_deep(rt: HostRuntime) -> Result<(), Fail> {
         (b"once f() at ", b"-", b"1", b"", 198),
         (b"maybe f() at 1 within ", b"-", b"1", b"", 198),
         (b"a[", b"-", b"1] := 2", b"", 198),
+        (b"x := 1", b"*1", b"", b"", 198),
+        (b"x := a", b"&b", b"", b"", 198),
+        (b"x := ", b"f(1, ", b"1", b")", 198),
+        (b"x := ", b"t${f: 1, g: ", b"1", b"}", 198),
+        (b"x := ", b"t$[1, ", b"1", b"]", 198),
+        (b"x: int := ", b"-", b"1", b"", 198),
+        (b"put_line(", b"-", b"1)", b"", 198),
+        (b"sleep(", b"-", b"1)", b"", 198),
+        (b"t$op(", b"-", b"1)", b"", 197),
+        (b"maybe f(", b"-", b"1) at 1 within 1", b"", 198),
+        (b"maybe f() at ", b"-", b"1 within 1", b"", 198),
+        (b"if ", b"-", b"a then end", b"", 198),
+        (b"if a then elseif ", b"-", b"a then end", b"", 198),
+        (b"while ", b"-", b"a do end", b"", 198),
+        (b"region ", b"-", b"a do end", b"", 198),
+        (b"tagcase ", b"-", b"a end", b"", 198),
+        (b"for i: t in int$from_to(", b"-", b"1, 2) do end", b"", 198),
+        (b"for i: t in int$from_to(1, ", b"-", b"2) do end", b"", 198),
+        (b"for i: t in t$elements(", b"-", b"a) do end", b"", 198),
     ];
     for way in &ways {
         assert_eq!(rt;
@@ -820,50 +886,63 @@ fn reads_the_lines_of_hello(rt: HostRuntime) -> Result<(), Fail> {
 fn nested_type(
     rt: &impl Abort,
     alloc: Global,
-    before: &[u8],
-    count: usize,
-    behind: &[u8],
+    place: &(&[u8], &[u8], usize),
+    more: usize,
 ) -> Result<Result<(), u32>, Fail> {
-    let opened = repeated(alloc, before, b"array[", count, b"int")?;
-    let whole = repeated(alloc, opened.as_slice(), b"]", count, behind)?;
+    let (before, behind, count) = *place;
+    assert!(rt; count <= 200 && more <= 1);
+    let opened = repeated(alloc, before, b"array[", count + more, b"int")?;
+    let whole = repeated(alloc, opened.as_slice(), b"]", count + more, behind)?;
     program(rt, alloc, whole.as_slice())
 }
 
 #[test]
 fn types_nest_200_deep(rt: HostRuntime) -> Result<(), Fail> {
-    let places: [(&[u8], &[u8]); 8] = [
-        (b"a = ", b""),
-        (b"nodevar a: ", b""),
-        (b"nodevar a: int := array[", b"]$new()"),
-        (b"a = proc (b: ", b") end a"),
-        (b"a = proc () returns (", b") end a"),
-        (b"a = proc () signals (b (", b")) end a"),
-        (b"a = cluster is b rep = ", b" end a"),
+    let places: [(&[u8], &[u8], usize); 18] = [
+        (b"a = ", b"", 199),
+        (b"nodevar a: ", b"", 199),
+        (b"nodevar a: int := array[", b"]$new()", 199),
+        (b"a = proc (b: ", b") end a", 199),
+        (b"a = proc () returns (", b") end a", 199),
+        (b"a = proc () signals (b (", b")) end a", 199),
+        (b"a = cluster is b rep = ", b" end a", 199),
         (
             b"a = cluster is b rep = int b = proc (c: ",
             b") end b end a",
+            199,
         ),
+        (b"a = proc () x: ", b" end a", 198),
+        (
+            b"a = proc () for i: ",
+            b" in t$elements(x) do end end a",
+            198,
+        ),
+        (
+            b"a = proc () for i: t in ",
+            b"$elements(x) do end end a",
+            198,
+        ),
+        (b"a = proc () tagcase x tag y (z: ", b"): end end a", 198),
+        (b"a = proc () f() except when y (z: ", b"): end end a", 198),
+        (b"a = proc () x := ", b"$op() end a", 197),
+        (b"a = proc () ", b"$op() end a", 197),
+        (b"a = proc () x := ", b"${f: 1} end a", 197),
+        (b"a = proc () x := ", b"$[] end a", 197),
+        (b"a = proc () ", b"$[][1] := 2 end a", 197),
     ];
-    for (before, behind) in places {
-        let deep = nested_type(&rt, rt.alloc(), before, 199, behind)?;
-        assert_eq!(rt; deep, Ok(()), "{}", before.escape_ascii());
-        let deeper = nested_type(&rt, rt.alloc(), before, 200, behind)?;
-        assert_eq!(rt; deeper, Err(1), "{}", before.escape_ascii());
+    for place in &places {
+        let deep = nested_type(&rt, rt.alloc(), place, 0)?;
+        assert_eq!(rt; deep, Ok(()), "{}", place.1.escape_ascii());
+        let deeper = nested_type(&rt, rt.alloc(), place, 1)?;
+        assert_eq!(rt; deeper, Err(1), "{}", place.1.escape_ascii());
     }
     Ok(())
 }
 
 #[test]
-fn names_the_line_where_reading_fails(rt: HostRuntime) {
-    let table: [(&[u8], u32); 14] = [
+fn names_the_line_where_reading_fails(rt: HostRuntime) -> Result<(), Fail> {
+    let table: [(&[u8], u32); 20] = [
         (b"a = proc ()\n  x := 1 +\n  * 2\nend a", 3),
-        (b"a = proc ()\n  put_line(\"x\n  f()\nend a", 2),
-        (b"a = proc ()\n  x := 'ab'\nend a", 2),
-        (
-            b"a = proc ()\n  x := 1\n  y := 9223372036854775808\nend a",
-            3,
-        ),
-        (b"a = proc ()\n  X := 1\nend a", 2),
         (b"a = proc ()\n  f(1,\n    2\n  g()\nend a", 4),
         (b"a = proc ()\n  f(1,\n    2))\nend a", 3),
         (
@@ -885,15 +964,31 @@ fn names_the_line_where_reading_fails(rt: HostRuntime) {
             b"a = cluster is b\n  rep = int\n  b = proc ()\n  end c\nend a",
             4,
         ),
+        (b"a = proc (b: int,\n  c)\nend a", 2),
+        (b"a = proc ()\n  returns (int)\n  signals (b\nc) end a", 4),
+        (b"a = cluster is b,\n\nrep = int end a", 3),
+        (b"nodevar a: int := -\n  b", 2),
+        (b"a = record[b: int,\n  c: int\n  d: int]", 3),
+        (
+            b"a = proc ()\n  f() except\n    when b:\n    others: g()\n    when c: end\nend a",
+            5,
+        ),
+        (
+            b"a = proc ()\n  tagcase b\n    tag c (d: int):\n    tag e (f:\n    ): end\nend a",
+            5,
+        ),
+        (
+            b"a = proc ()\n  for i: int in\n    int$from_to(1,\n    2\n    3) do end\nend a",
+            5,
+        ),
+        (b"a = proc ()\n  x := maybe f() at 1\n  y := 2\nend a", 3),
+        (b"a = proc ()\n  b\n\n  := 1 c\nend a", 5),
     ];
     for (text, line) in table {
-        assert_eq!(rt;
-            answer(&rt, rt.alloc(), text),
-            Err(line),
-            "{}",
-            text.escape_ascii()
-        );
+        let read = program(&rt, rt.alloc(), text)?;
+        assert_eq!(rt; read, Err(line), "{}", text.escape_ascii());
     }
+    Ok(())
 }
 
 /// A program as its tree says it.
