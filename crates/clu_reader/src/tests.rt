@@ -1,75 +1,17 @@
+mod nesting;
+mod programs;
 mod show;
+mod trees;
 
 use super::*;
 use clu_text::tokens;
-use clu_tree::{Expr, NodePart, Program, Stmt, Value};
-use show::Shown;
+use clu_tree::Program;
 use std::alloc::{AllocError, Global};
 use std::process::Abort;
 use std::test::Fail;
 
-/// Programs of many forms, as a user would write them.
-const PROGRAMS: [(&str, &[u8]); 14] = [
-    (
-        "hello",
-        b"hello = proc ()\n  put_line(\"hi\")\nend hello\nnode 1 is start hello() end",
-    ),
-    (
-        "nap",
-        b"nap = proc ()\n  sleep(100)\n  put_line(\"up\")\nend nap\nnode 1 is start nap() end",
-    ),
-    (
-        "add",
-        b"add = proc (a: int, b: int) returns (int)\n  return (a + b)\nend add\nmain1 = proc ()\n  x: int\n  x := once add(2, 3) at 2\n  put_line(int$unparse(x))\nend main1\nnode 1 is start main1() end\nnode 2 is export add end",
-    ),
-    (
-        "two",
-        b"add = proc (a: int, b: int) returns (int)\n  return (a + b)\nend add\nmain1 = proc ()\n  x: int\n  for i: int in int$from_to(1, 2) do\n    x := once add(i, i) at 2\n    put_line(int$unparse(x))\n  end\nend main1\nnode 1 is start main1() end\nnode 2 is export add end",
-    ),
-    (
-        "mb",
-        b"add = proc (a: int, b: int) returns (int)\n  return (a + b)\nend add\nmain1 = proc ()\n  begin\n    x: int := 0\n    x := maybe add(2, 3) at 2 within 100\n    put_line(int$unparse(x))\n  end except when no_answer:\n    put_line(\"none\")\n  end\nend main1\nnode 1 is start main1() end\nnode 2 is export add end",
-    ),
-    (
-        "loop",
-        b"p = proc ()\n  for i: int in int$from_to(1, 3) do\n    put_line(int$unparse(i))\n  end\nend p\nnode 1 is start p() end",
-    ),
-    (
-        "bag",
-        b"bag = cluster is make, print\n  rep = array[int]\n  make = proc () returns (cvt)\n    return (rep$new())\n  end make\n  print = proc (b: cvt) returns (string)\n    rep$addh(b, 1)\n    return (\"bag\")\n  end print\nend bag\np = proc ()\n  b: bag := bag$make()\n  sleep(10)\nend p\nnode 1 is start p() end",
-    ),
-    (
-        "spin",
-        b"spin = cluster is make, print\n  rep = int\n  make = proc () returns (cvt)\n    return (0)\n  end make\n  print = proc (b: cvt) returns (string)\n    for i: int in int$from_to(1, 9993) do\n    end\n    return (\"x\")\n  end print\nend spin\np = proc ()\n  b: spin := spin$make()\n  sleep(10)\nend p\nnode 1 is start p() end",
-    ),
-    (
-        "chain",
-        b"c3 = proc () returns (int)\n  sleep(1000)\n  return (1)\nend c3\nc2 = proc () returns (int)\n  x: int\n  x := once c3() at 3\n  return (x)\nend c2\nc1 = proc ()\n  x: int\n  x := once c2() at 2\nend c1\nnode 1 is start c1() end\nnode 2 is export c2 end\nnode 3 is export c3 end",
-    ),
-    (
-        "nat",
-        b"nat = cluster is zero, next\n  rep = oneof[z: null, s: nat]\n  zero = proc () returns (cvt)\n    return (rep$make_z(nil))\n  end zero\n  next = proc (n: nat) returns (cvt)\n    return (rep$make_s(n))\n  end next\nend nat\ntaker = proc (n: nat)\nend taker\np = proc (k: int)\n  n: nat := nat$zero()\n  for i: int in int$from_to(1, k) do\n    n := nat$next(n)\n  end\n  once taker(n) at 1\n    except when failure (s: string): put_line(s) end\nend p\nnode 1 is export taker start p(62) end",
-    ),
-    (
-        "arith",
-        b"p = proc ()\n  put_line(int$unparse(-7 / 2))\n  put_line(int$unparse(-7 // 2))\n  put_line(int$unparse((-9223372036854775807 - 1) / -1))\n    except when overflow: put_line(\"overflow\") end\n  a: array[int] := array[int]$[5, 6]\n  put_line(int$unparse(a[3]))\n    except when bounds: put_line(\"bounds\") end\nend p\nnode 1 is start p() end",
-    ),
-    (
-        "bank",
-        b"acct = cluster is make, add, print\n  rep = record[sum: int]\n  make = proc (n: int) returns (cvt)\n    return (rep${sum: n})\n  end make\n  add = proc (a: cvt, n: int) returns (int)\n    a.sum := a.sum + n\n    return (a.sum)\n  end add\n  print = proc (a: cvt) returns (string)\n    return (\"sum \" || int$unparse(a.sum))\n  end print\nend acct\nnodevar guard: lock := lock$create()\nnodevar book: array[acct] := array[acct]$new()\nnodevar left: int := 2\nmove = proc (source: int, n: int)\n  region guard do\n    if array[acct]$size(book) = 0 then\n      array[acct]$addh(book, acct$make(100))\n      array[acct]$addh(book, acct$make(100))\n    end\n    acct$add(book[source], -n)\n    acct$add(book[3 - source], n)\n  end\nend move\nclose = proc ()\n  region guard do\n    left := left - 1\n    if left = 0 then\n      put_line(acct$print(book[1]) || \", \" || acct$print(book[2]))\n    end\n  end\nend close\nteller = proc (source: int, n: int)\n  for i: int in int$from_to(1, 10) do\n    once move(source, n) at 3\n  end\n  once close() at 3\nend teller\nnode 1 is start teller(1, 3) end\nnode 2 is start teller(2, 1) end\nnode 3 is export move export close end",
-    ),
-    (
-        "sema",
-        b"nodevar s: semaphore := semaphore$create(0)\np = proc ()\n  if semaphore$wait_for(s, 50) then put_line(\"got\") else put_line(\"late\") end\nend p\nq = proc ()\n  sleep(20)\n  semaphore$signal(s)\nend q\nnode 1 is start p() start q() end",
-    ),
-    (
-        "forks",
-        b"c = proc ()\n  sleep(1000000)\nend c\np = proc (n: int)\n  for i: int in int$from_to(1, n) do fork c() end\n    except when failure (s: string): put_line(s) end\nend p\nnode 1 is start p(1024) end",
-    ),
-];
-
 /// Whether the text reads, or the line where reading failed.
-fn program(rt: &impl Abort, alloc: Global, text: &[u8]) -> Result<Result<(), u32>, Fail> {
+fn read_text(rt: &impl Abort, alloc: Global, text: &[u8]) -> Result<Result<(), u32>, Fail> {
     assert!(rt; text.len() <= 1048576);
     let found = tokens(alloc, text)?;
     match read_program(alloc, text, found.as_slice()) {
@@ -82,7 +24,7 @@ fn program(rt: &impl Abort, alloc: Global, text: &[u8]) -> Result<Result<(), u32
 /// The same for statements, which stand from line 2 on in a routine that ends on the line of the last one.
 fn statement(rt: &impl Abort, alloc: Global, text: &[u8]) -> Result<Result<(), u32>, Fail> {
     let whole = repeated(alloc, b"p = proc ()\n", text, 1, b"\tend p")?;
-    program(rt, alloc, whole.as_slice())
+    read_text(rt, alloc, whole.as_slice())
 }
 
 /// The same for an expression, which stands on line 2.
@@ -651,7 +593,7 @@ fn reads_each_part(rt: HostRuntime) -> Result<(), Fail> {
         ),
     ];
     for (text, wanted) in table {
-        let read = program(&rt, rt.alloc(), text)?;
+        let read = read_text(&rt, rt.alloc(), text)?;
         assert_eq!(rt; read, wanted, "{}", text.escape_ascii());
     }
     Ok(())
@@ -714,112 +656,8 @@ fn refuses_each_part(rt: HostRuntime) -> Result<(), Fail> {
         (b"node 1 is export a, b end", Err(1)),
     ];
     for (text, wanted) in table {
-        let read = program(&rt, rt.alloc(), text)?;
+        let read = read_text(&rt, rt.alloc(), text)?;
         assert_eq!(rt; read, wanted, "{}", text.escape_ascii());
-    }
-    Ok(())
-}
-
-#[test]
-fn reads_whole_programs(rt: HostRuntime) -> Result<(), Fail> {
-    for (name, text) in PROGRAMS {
-        assert_eq!(rt; program(&rt, rt.alloc(), text)?, Ok(()), "{name}");
-    }
-    no_text_has_two_trees();
-    Ok(())
-}
-
-/// `piece` so many times, `middle`, and `close` as many times, behind `before`, as statements.
-fn nested(
-    rt: &impl Abort,
-    alloc: Global,
-    way: &(&[u8], &[u8], &[u8], &[u8], usize),
-    more: usize,
-) -> Result<Result<(), u32>, Fail> {
-    let (before, piece, middle, close, count) = *way;
-    assert!(rt; count <= 200 && more <= 1);
-    let opened = repeated(alloc, before, piece, count + more, middle)?;
-    let whole = repeated(alloc, opened.as_slice(), close, count + more, b"")?;
-    statement(rt, alloc, whole.as_slice())
-}
-
-#[test]
-fn nests_200_deep(rt: HostRuntime) -> Result<(), Fail> {
-    let ways: [(&[u8], &[u8], &[u8], &[u8], usize); 60] = [
-        (b"x := ", b"-", b"1", b"", 198),
-        (b"x := ", b"~", b"a", b"", 198),
-        (b"x := 1", b"+1", b"", b"", 198),
-        (b"x := a", b"|b", b"", b"", 198),
-        (b"x := ", b"f(", b"1", b")", 198),
-        (b"x := ", b"t$op(", b"1", b")", 198),
-        (b"x := ", b"a[", b"1", b"]", 198),
-        (b"x := a", b".b", b"", b"", 198),
-        (b"x := a", b"[1]", b"", b"", 198),
-        (b"x := ", b"up(", b"1", b")", 198),
-        (b"x := ", b"t$[", b"1", b"]", 198),
-        (b"x := ", b"t${f: ", b"1", b"}", 198),
-        (b"x := ", b"(a = ", b"a", b")", 198),
-        (b"x := ", b"(a ~= ", b"a", b")", 99),
-        (b"x: ", b"array[", b"int", b"]", 198),
-        (b"x: ", b"record[a: ", b"int", b"]", 198),
-        (b"x: ", b"oneof[a: ", b"int", b"]", 198),
-        (b"", b"begin ", b"", b" end", 200),
-        (b"", b"if a then ", b"", b" end", 199),
-        (b"", b"if a then else ", b"", b" end", 199),
-        (b"", b"while a do ", b"", b" end", 199),
-        (b"", b"region a do ", b"", b" end", 199),
-        (b"", b"for i: t in t$elements(a) do ", b"", b" end", 199),
-        (b"", b"tagcase a tag b: ", b"", b" end", 199),
-        (b"", b"tagcase a others: ", b"", b" end", 199),
-        (b"f()", b" resignal a", b"", b"", 198),
-        (b"f()", b" except end", b"", b"", 198),
-        (b"", b"return except others: ", b"", b" end", 199),
-        (b"", b"f(", b"1", b")", 198),
-        (b"a", b".b", b".c := 1", b"", 198),
-        (b"x := ", b"(-", b"1", b")", 198),
-        (b"x := ", b"down(", b"1", b")", 198),
-        (b"", b"if a then elseif b then ", b"", b" end", 199),
-        (b"", b"return except when a: ", b"", b" end", 199),
-        (b"return (", b"-", b"1)", b"", 198),
-        (b"signal n (", b"-", b"1)", b"", 198),
-        (b"fork f(", b"-", b"1)", b"", 198),
-        (b"once f(", b"-", b"1) at 1", b"", 198),
-        (b"once f() at ", b"-", b"1", b"", 198),
-        (b"maybe f() at 1 within ", b"-", b"1", b"", 198),
-        (b"a[", b"-", b"1] := 2", b"", 198),
-        (b"x := 1", b"*1", b"", b"", 198),
-        (b"x := a", b"&b", b"", b"", 198),
-        (b"x := ", b"f(1, ", b"1", b")", 198),
-        (b"x := ", b"t${f: 1, g: ", b"1", b"}", 198),
-        (b"x := ", b"t$[1, ", b"1", b"]", 198),
-        (b"x: int := ", b"-", b"1", b"", 198),
-        (b"put_line(", b"-", b"1)", b"", 198),
-        (b"sleep(", b"-", b"1)", b"", 198),
-        (b"t$op(", b"-", b"1)", b"", 197),
-        (b"maybe f(", b"-", b"1) at 1 within 1", b"", 198),
-        (b"maybe f() at ", b"-", b"1 within 1", b"", 198),
-        (b"if ", b"-", b"a then end", b"", 198),
-        (b"if a then elseif ", b"-", b"a then end", b"", 198),
-        (b"while ", b"-", b"a do end", b"", 198),
-        (b"region ", b"-", b"a do end", b"", 198),
-        (b"tagcase ", b"-", b"a end", b"", 198),
-        (b"for i: t in int$from_to(", b"-", b"1, 2) do end", b"", 198),
-        (b"for i: t in int$from_to(1, ", b"-", b"2) do end", b"", 198),
-        (b"for i: t in t$elements(", b"-", b"a) do end", b"", 198),
-    ];
-    for way in &ways {
-        assert_eq!(rt;
-            nested(&rt, rt.alloc(), way, 0)?,
-            Ok(()),
-            "{}",
-            way.1.escape_ascii()
-        );
-        assert_eq!(rt;
-            nested(&rt, rt.alloc(), way, 1)?,
-            Err(2),
-            "{}",
-            way.1.escape_ascii()
-        );
     }
     Ok(())
 }
@@ -845,97 +683,6 @@ fn reads_long_texts(rt: HostRuntime) -> Result<(), Fail> {
     let opened = repeated(rt.alloc(), b"x := ", b"(", 2000, b"1")?;
     let closed = repeated(rt.alloc(), opened.as_slice(), b")", 2000, b"")?;
     assert_eq!(rt; statement(&rt, rt.alloc(), closed.as_slice())?, Ok(()));
-    Ok(())
-}
-
-#[test]
-fn reads_the_lines_of_hello(rt: HostRuntime) -> Result<(), Fail> {
-    assert!(rt; HELLO.len() <= 1048576);
-    let found = tokens(rt.alloc(), HELLO)?;
-    let program = read_program(rt.alloc(), HELLO, found.as_slice())?;
-    match (program.routines.as_slice(), program.nodes.as_slice()) {
-        ([routine], [node]) => {
-            assert_eq!(rt;
-                (routine.name.as_slice(), routine.line),
-                (b"hello".as_slice(), 1)
-            );
-            assert_eq!(rt; (node.number, node.line), (1, 4));
-            match routine.body.as_slice() {
-                [Stmt::PutLine(Expr::Literal(Value::Str(text), line), 2)] => {
-                    assert_eq!(rt; (text.as_slice(), *line), (b"hi".as_slice(), 2));
-                }
-                _ => panic!(rt; "another body"),
-            }
-            match node.parts.as_slice() {
-                [NodePart::Start { name, args, line }] => {
-                    assert_eq!(rt;
-                        (name.as_slice(), args.len(), *line),
-                        (b"hello".as_slice(), 0, 4)
-                    );
-                }
-                _ => panic!(rt; "another block"),
-            }
-        }
-        _ => panic!(rt; "another program"),
-    }
-    no_text_has_two_trees();
-    Ok(())
-}
-
-/// A program of a type that is nested so often, with what stands round it.
-fn nested_type(
-    rt: &impl Abort,
-    alloc: Global,
-    place: &(&[u8], &[u8], usize),
-    more: usize,
-) -> Result<Result<(), u32>, Fail> {
-    let (before, behind, count) = *place;
-    assert!(rt; count <= 200 && more <= 1);
-    let opened = repeated(alloc, before, b"array[", count + more, b"int")?;
-    let whole = repeated(alloc, opened.as_slice(), b"]", count + more, behind)?;
-    program(rt, alloc, whole.as_slice())
-}
-
-#[test]
-fn types_nest_200_deep(rt: HostRuntime) -> Result<(), Fail> {
-    let places: [(&[u8], &[u8], usize); 18] = [
-        (b"a = ", b"", 199),
-        (b"nodevar a: ", b"", 199),
-        (b"nodevar a: int := array[", b"]$new()", 199),
-        (b"a = proc (b: ", b") end a", 199),
-        (b"a = proc () returns (", b") end a", 199),
-        (b"a = proc () signals (b (", b")) end a", 199),
-        (b"a = cluster is b rep = ", b" end a", 199),
-        (
-            b"a = cluster is b rep = int b = proc (c: ",
-            b") end b end a",
-            199,
-        ),
-        (b"a = proc () x: ", b" end a", 198),
-        (
-            b"a = proc () for i: ",
-            b" in t$elements(x) do end end a",
-            198,
-        ),
-        (
-            b"a = proc () for i: t in ",
-            b"$elements(x) do end end a",
-            198,
-        ),
-        (b"a = proc () tagcase x tag y (z: ", b"): end end a", 198),
-        (b"a = proc () f() except when y (z: ", b"): end end a", 198),
-        (b"a = proc () x := ", b"$op() end a", 197),
-        (b"a = proc () ", b"$op() end a", 197),
-        (b"a = proc () x := ", b"${f: 1} end a", 197),
-        (b"a = proc () x := ", b"$[] end a", 197),
-        (b"a = proc () ", b"$[][1] := 2 end a", 197),
-    ];
-    for place in &places {
-        let deep = nested_type(&rt, rt.alloc(), place, 0)?;
-        assert_eq!(rt; deep, Ok(()), "{}", place.1.escape_ascii());
-        let deeper = nested_type(&rt, rt.alloc(), place, 1)?;
-        assert_eq!(rt; deeper, Err(1), "{}", place.1.escape_ascii());
-    }
     Ok(())
 }
 
@@ -985,109 +732,8 @@ fn names_the_line_where_reading_fails(rt: HostRuntime) -> Result<(), Fail> {
         (b"a = proc ()\n  b\n\n  := 1 c\nend a", 5),
     ];
     for (text, line) in table {
-        let read = program(&rt, rt.alloc(), text)?;
+        let read = read_text(&rt, rt.alloc(), text)?;
         assert_eq!(rt; read, Err(line), "{}", text.escape_ascii());
     }
-    Ok(())
-}
-
-/// A program as its tree says it.
-fn shown(rt: &impl Abort, alloc: Global, text: &[u8]) -> Result<Shown, Fail> {
-    assert!(rt; text.len() <= 1048576);
-    let found = tokens(alloc, text)?;
-    let program = read_program(alloc, text, found.as_slice())?;
-    let mut shown = Shown::new(alloc);
-    shown.program(&program)?;
-    Ok(shown)
-}
-
-#[test]
-fn reads_statements_as_their_trees(rt: HostRuntime) -> Result<(), Fail> {
-    let table: [(&[u8], &str); 12] = [
-        (
-            b"x: int\ny: array[t] :=\nz",
-            "x: int@2 y: array[t] := z@4@3",
-        ),
-        (
-            b"x := y\nx.f\n:= y\nx[y]\n:= z",
-            "x@2 := y@2@2 x@3.f@3 := y@4@3 x@5[y@5]@5 := z@6@5",
-        ),
-        (
-            b"x := once f(a,\nb) at c\nonce g() at\nd",
-            "x := once f(a@2, b@3)@2 at c@3@2 once g()@4 at d@5@4",
-        ),
-        (
-            b"x :=\nmaybe f(a) at b within c\nmaybe g() at d\nwithin e",
-            "x := maybe f(a@3)@3 at b@3 within c@3@2 maybe g()@4 at d@4 within e@5@4",
-        ),
-        (
-            b"f(a,\nb)\nput_line(\na)\nsleep(\nb)\nfork f(a,\nb)",
-            "call f(a@2, b@3)@2@2 put_line a@5@4 sleep b@7@6 fork f(a@8, b@9)@8",
-        ),
-        (
-            b"return\nreturn (\na)\nsignal n\nsignal m (\na)",
-            "return@2 return a@4@3 signal n@5 signal m a@7@6",
-        ),
-        (
-            b"if a then f()\nelseif b then g()\nelseif c then\nelse h() end\nif d then end",
-            "if a@2{ call f()@2@2 } elseif b@3{ call g()@3@3 } elseif c@4{ } else{ call h()@5@5 }@2 if d@6{ }@6",
-        ),
-        (
-            b"while\na do f() end\nregion\nb do g() end\nbegin\nh() i() end",
-            "while a@3{ call f()@3@3 }@2 region b@5{ call g()@5@5 }@4 begin{ call h()@7@7 call i()@7@7 }@6",
-        ),
-        (
-            b"for i: int in\nint$from_to(a,\nb) do f() end\nfor x: t in\narray[t]$elements(a) do g() end",
-            "for i: int in from a@3 to b@4@3{ call f()@4@4 }@2 for x: t in array[t] of a@6@6{ call g()@6@6 }@5",
-        ),
-        (
-            b"tagcase a\ntag b: f()\ntag c (y: t): g()\nothers: h() end\ntagcase d end",
-            "tagcase a@2 tag b{ call f()@3@3 } tag c (y: t){ call g()@4@4 } others{ call h()@5@5 }@2 tagcase d@6@6",
-        ),
-        (
-            b"f() except\nwhen a, b (x: int): g()\nwhen c:\nothers: h() end",
-            "(call f()@2@2 except when a, b (x: int){ call g()@3@3 } when c{ } others{ call h()@5@5 })",
-        ),
-        (
-            b"return\nresignal a, b\nexcept when c: end resignal d",
-            "(((return@2 resignal a, b) except when c{ }) resignal d)",
-        ),
-    ];
-    for (text, wanted) in table {
-        let whole = repeated(rt.alloc(), b"p = proc ()\n", text, 1, b"\nend p")?;
-        let found = shown(&rt, rt.alloc(), whole.as_slice())?;
-        let wanted = format!(in rt.alloc(); "p()@1 {{ {wanted} }}; ")?;
-        assert_eq!(rt; found.as_slice(), wanted.as_bytes());
-    }
-    Ok(())
-}
-
-#[test]
-fn reads_programs_as_their_trees(rt: HostRuntime) -> Result<(), Fail> {
-    let table: [(&[u8], &str); 6] = [
-        (b"", ""),
-        (b"a\n= int b = array[c]", "a = int@1; b = array[c]@2; "),
-        (
-            b"nodevar a: t\nnodevar\nb: int := -5 nodevar c: lock := lock$create()\nnodevar d: semaphore := semaphore$create(3) nodevar e: array[t] := array[u]$new()",
-            "nodevar a: t@1; nodevar b: int := -5@2; nodevar c: ? := lock@3; nodevar d: ? := semaphore 3@4; nodevar e: array[t] := none of u@4; ",
-        ),
-        (
-            b"p = proc (a: int, b: t)\nreturns (string) signals (e, f (u)) return (a) end p\nq =\nproc () end q",
-            "p(a: int, b: t) returns string signals e signals f with u@1 { return a@2@2 }; q()@3 { }; ",
-        ),
-        (
-            b"p = proc () end p\nc = cluster is f, g rep = array[int] f = proc (x: cvt) end f\ng = proc () returns (cvt) end g end c\nq = proc () end q d = cluster is h rep = t end d",
-            "p()@1 { }; f(x: cvt)@2 { }; g() returns cvt@3 { }; q()@4 { }; c is f, g rep array[int] from 1 count 2@2; d is h rep t from 4 count 0@4; ",
-        ),
-        (
-            b"node 1 is start p(1, -2, nil, true, 'a', \"b\")\nexport q export\nr end node\n7 is end",
-            "node 1@1 start p 1 -2 nil true '97 \"b@1 export q@2 export r@2; node 7@3; ",
-        ),
-    ];
-    for (text, wanted) in table {
-        let found = shown(&rt, rt.alloc(), text)?;
-        assert_eq!(rt; found.as_slice(), wanted.as_bytes());
-    }
-    no_text_has_two_trees();
     Ok(())
 }
