@@ -1,64 +1,17 @@
+mod nesting;
+mod programs;
+mod show;
+mod trees;
+
 use super::*;
 use clu_text::tokens;
-use clu_tree::{Expr, NodePart, Program, Stmt, Value};
+use clu_tree::Program;
 use std::alloc::{AllocError, Global};
 use std::process::Abort;
 use std::test::Fail;
 
-/// Programs of many forms, as a user would write them.
-const PROGRAMS: [(&str, &[u8]); 12] = [
-    (
-        "hello",
-        b"hello = proc ()\n  put_line(\"hi\")\nend hello\nnode 1 is start hello() end",
-    ),
-    (
-        "nap",
-        b"nap = proc ()\n  sleep(100)\n  put_line(\"up\")\nend nap\nnode 1 is start nap() end",
-    ),
-    (
-        "add",
-        b"add = proc (a: int, b: int) returns (int)\n  return (a + b)\nend add\nmain1 = proc ()\n  x: int\n  x := once add(2, 3) at 2\n  put_line(int$unparse(x))\nend main1\nnode 1 is start main1() end\nnode 2 is export add end",
-    ),
-    (
-        "two",
-        b"add = proc (a: int, b: int) returns (int)\n  return (a + b)\nend add\nmain1 = proc ()\n  x: int\n  for i: int in int$from_to(1, 2) do\n    x := once add(i, i) at 2\n    put_line(int$unparse(x))\n  end\nend main1\nnode 1 is start main1() end\nnode 2 is export add end",
-    ),
-    (
-        "mb",
-        b"add = proc (a: int, b: int) returns (int)\n  return (a + b)\nend add\nmain1 = proc ()\n  begin\n    x: int := 0\n    x := maybe add(2, 3) at 2 within 100\n    put_line(int$unparse(x))\n  end except when no_answer:\n    put_line(\"none\")\n  end\nend main1\nnode 1 is start main1() end\nnode 2 is export add end",
-    ),
-    (
-        "loop",
-        b"p = proc ()\n  for i: int in int$from_to(1, 3) do\n    put_line(int$unparse(i))\n  end\nend p\nnode 1 is start p() end",
-    ),
-    (
-        "bag",
-        b"bag = cluster is make, print\n  rep = array[int]\n  make = proc () returns (cvt)\n    return (rep$new())\n  end make\n  print = proc (b: cvt) returns (string)\n    rep$addh(b, 1)\n    return (\"bag\")\n  end print\nend bag\np = proc ()\n  b: bag := bag$make()\n  sleep(10)\nend p\nnode 1 is start p() end",
-    ),
-    (
-        "spin",
-        b"spin = cluster is make, print\n  rep = int\n  make = proc () returns (cvt)\n    return (0)\n  end make\n  print = proc (b: cvt) returns (string)\n    for i: int in int$from_to(1, 9993) do\n    end\n    return (\"x\")\n  end print\nend spin\np = proc ()\n  b: spin := spin$make()\n  sleep(10)\nend p\nnode 1 is start p() end",
-    ),
-    (
-        "chain",
-        b"c3 = proc () returns (int)\n  sleep(1000)\n  return (1)\nend c3\nc2 = proc () returns (int)\n  x: int\n  x := once c3() at 3\n  return (x)\nend c2\nc1 = proc ()\n  x: int\n  x := once c2() at 2\nend c1\nnode 1 is start c1() end\nnode 2 is export c2 end\nnode 3 is export c3 end",
-    ),
-    (
-        "nat",
-        b"nat = cluster is zero, next\n  rep = oneof[z: null, s: nat]\n  zero = proc () returns (cvt)\n    return (rep$make_z(nil))\n  end zero\n  next = proc (n: nat) returns (cvt)\n    return (rep$make_s(n))\n  end next\nend nat\ntaker = proc (n: nat)\nend taker\np = proc (k: int)\n  n: nat := nat$zero()\n  for i: int in int$from_to(1, k) do\n    n := nat$next(n)\n  end\n  once taker(n) at 1\n    except when failure (s: string): put_line(s) end\nend p\nnode 1 is export taker start p(62) end",
-    ),
-    (
-        "arith",
-        b"p = proc ()\n  put_line(int$unparse(-7 / 2))\n  put_line(int$unparse(-7 // 2))\n  put_line(int$unparse((-9223372036854775807 - 1) / -1))\n    except when overflow: put_line(\"overflow\") end\n  a: array[int] := array[int]$[5, 6]\n  put_line(int$unparse(a[3]))\n    except when bounds: put_line(\"bounds\") end\nend p\nnode 1 is start p() end",
-    ),
-    (
-        "bank",
-        b"acct = cluster is make, add, print\n  rep = record[sum: int]\n  make = proc (n: int) returns (cvt)\n    return (rep${sum: n})\n  end make\n  add = proc (a: cvt, n: int) returns (int)\n    a.sum := a.sum + n\n    return (a.sum)\n  end add\n  print = proc (a: cvt) returns (string)\n    return (\"sum \" || int$unparse(a.sum))\n  end print\nend acct\nnodevar guard: lock := lock$create()\nnodevar book: array[acct] := array[acct]$new()\nnodevar left: int := 2\nmove = proc (source: int, n: int)\n  region guard do\n    if array[acct]$size(book) = 0 then\n      array[acct]$addh(book, acct$make(100))\n      array[acct]$addh(book, acct$make(100))\n    end\n    acct$add(book[source], -n)\n    acct$add(book[3 - source], n)\n  end\nend move\nclose = proc ()\n  region guard do\n    left := left - 1\n    if left = 0 then\n      put_line(acct$print(book[1]) || \", \" || acct$print(book[2]))\n    end\n  end\nend close\nteller = proc (source: int, n: int)\n  for i: int in int$from_to(1, 10) do\n    once move(source, n) at 3\n  end\n  once close() at 3\nend teller\nnode 1 is start teller(1, 3) end\nnode 2 is start teller(2, 1) end\nnode 3 is export move export close end",
-    ),
-];
-
 /// Whether the text reads, or the line where reading failed.
-fn program(rt: &impl Abort, alloc: Global, text: &[u8]) -> Result<Result<(), u32>, Fail> {
+fn read_text(rt: &impl Abort, alloc: Global, text: &[u8]) -> Result<Result<(), u32>, Fail> {
     assert!(rt; text.len() <= 1048576);
     let found = tokens(alloc, text)?;
     match read_program(alloc, text, found.as_slice()) {
@@ -71,7 +24,7 @@ fn program(rt: &impl Abort, alloc: Global, text: &[u8]) -> Result<Result<(), u32
 /// The same for statements, which stand from line 2 on in a routine that ends on the line of the last one.
 fn statement(rt: &impl Abort, alloc: Global, text: &[u8]) -> Result<Result<(), u32>, Fail> {
     let whole = repeated(alloc, b"p = proc ()\n", text, 1, b"\tend p")?;
-    program(rt, alloc, whole.as_slice())
+    read_text(rt, alloc, whole.as_slice())
 }
 
 /// The same for an expression, which stands on line 2.
@@ -118,7 +71,7 @@ fn statements(program: &Program) -> usize {
 
 #[test]
 fn accepts_and_refuses(rt: HostRuntime) {
-    let table: [(&[u8], Result<usize, u32>); 34] = [
+    let table: [(&[u8], Result<usize, u32>); 37] = [
         (HELLO, Ok(1)),
         (b"node 1 is end", Ok(0)),
         (b"node 01 is end", Ok(0)),
@@ -169,6 +122,12 @@ fn accepts_and_refuses(rt: HostRuntime) {
         (b"a = proc () end a\nnode 1 is\nstart b() end", Err(3)),
         (
             b"a = proc () end a\nnode 1 is start a()\nstart a() end",
+            Err(3),
+        ),
+        (b"a = proc ()\n  x := 'ab'\nend a", Err(2)),
+        (b"a = proc ()\n  X := 1\nend a", Err(2)),
+        (
+            b"a = proc ()\n  x := 1\n  y := 9223372036854775808\nend a",
             Err(3),
         ),
     ];
@@ -316,7 +275,7 @@ fn reads_each_statement(rt: HostRuntime) -> Result<(), Fail> {
 
 #[test]
 fn looks_ahead_behind_brackets(rt: HostRuntime) -> Result<(), Fail> {
-    let table: [(&[u8], Result<(), u32>); 18] = [
+    let table: [(&[u8], Result<(), u32>); 27] = [
         (b"y := y\n(x).f := 2", Ok(())),
         (b"y := y (x).f := 2", Ok(())),
         (b"y := y (x)[1].g := 2", Ok(())),
@@ -335,6 +294,15 @@ fn looks_ahead_behind_brackets(rt: HostRuntime) -> Result<(), Fail> {
         (b"x: int\n(y).f := 1", Ok(())),
         (b"f()\n(x).f := 2", Ok(())),
         (b"y := a[f (x)] (z).h := 1", Ok(())),
+        (b"return ((a)).b := 1", Ok(())),
+        (b"signal n (a.b)[c].d := 1", Ok(())),
+        (b"y := y\n(x) := 2", Err(3)),
+        (b"return\n(x) := 2", Err(3)),
+        (b"signal n\n(x) := 2", Err(3)),
+        (b"f(x)\n.g", Err(3)),
+        (b"y := y (x)\n(z)", Err(3)),
+        (b"return (a)\n.b", Err(3)),
+        (b"y := y (x].f := 1", Err(2)),
     ];
     for (text, wanted) in table {
         let read = statement(&rt, rt.alloc(), text)?;
@@ -395,7 +363,7 @@ fn reads_each_expression(rt: HostRuntime) -> Result<(), Fail> {
 
 #[test]
 fn refuses_each_expression(rt: HostRuntime) -> Result<(), Fail> {
-    let table: [(&[u8], Result<(), u32>); 33] = [
+    let table: [(&[u8], Result<(), u32>); 47] = [
         (b"a < b < c", Err(2)),
         (b"a = b = c", Err(2)),
         (b"a +", Err(2)),
@@ -429,6 +397,20 @@ fn refuses_each_expression(rt: HostRuntime) -> Result<(), Fail> {
         (b"array[int]", Err(2)),
         (b"if", Err(2)),
         (b"a := b", Err(2)),
+        (b"a | | b", Err(2)),
+        (b"a cor", Err(2)),
+        (b"a & & b", Err(2)),
+        (b"a cand", Err(2)),
+        (b"a <", Err(2)),
+        (b"a ~= b = c", Err(2)),
+        (b"a - || b", Err(2)),
+        (b"a * / b", Err(2)),
+        (b"* a", Err(2)),
+        (b"a //", Err(2)),
+        (b"down x", Err(2)),
+        (b"down(1", Err(2)),
+        (b"t${f 1}", Err(2)),
+        (b"a[1)", Err(2)),
     ];
     for (text, wanted) in table {
         let read = expression(&rt, rt.alloc(), text)?;
@@ -439,7 +421,7 @@ fn refuses_each_expression(rt: HostRuntime) -> Result<(), Fail> {
 
 #[test]
 fn refuses_each_statement(rt: HostRuntime) -> Result<(), Fail> {
-    let table: [(&[u8], Result<(), u32>); 37] = [
+    let table: [(&[u8], Result<(), u32>); 56] = [
         (b"x", Err(2)),
         (b"x :=", Err(2)),
         (b"x:", Err(2)),
@@ -477,6 +459,25 @@ fn refuses_each_statement(rt: HostRuntime) -> Result<(), Fail> {
         (b"sleep", Err(2)),
         (b"sleep()", Err(2)),
         (b"sleep 1", Err(2)),
+        (b"up(x)", Err(2)),
+        (b"now()", Err(2)),
+        (b"t${a: 1}", Err(2)),
+        (b"t$[1]", Err(2)),
+        (b"put_line := 1", Err(2)),
+        (b"end := 1", Err(2)),
+        (b"x.f := once p() at 1", Err(2)),
+        (b"x: int := once p() at 1", Err(2)),
+        (b"x := fork p()", Err(2)),
+        (b"maybe p() within 1 at 1", Err(2)),
+        (b"x. := 1", Err(2)),
+        (b"x[1 := 2", Err(2)),
+        (b"x: oneof[]", Err(2)),
+        (b"x: oneof[a]", Err(2)),
+        (b"x: array int", Err(2)),
+        (b"t$op", Err(2)),
+        (b"t$op := 1", Err(2)),
+        (b"put_line", Err(2)),
+        (b"fork f() at 1", Err(2)),
     ];
     for (text, wanted) in table {
         let read = statement(&rt, rt.alloc(), text)?;
@@ -487,7 +488,7 @@ fn refuses_each_statement(rt: HostRuntime) -> Result<(), Fail> {
 
 #[test]
 fn refuses_each_body(rt: HostRuntime) -> Result<(), Fail> {
-    let table: [(&[u8], Result<(), u32>); 37] = [
+    let table: [(&[u8], Result<(), u32>); 49] = [
         (b"put_line()", Err(2)),
         (b"put_line(\"a\"", Err(2)),
         (b"f() except", Err(2)),
@@ -525,6 +526,18 @@ fn refuses_each_body(rt: HostRuntime) -> Result<(), Fail> {
         (b"region l end", Err(2)),
         (b"end", Err(2)),
         (b"else", Err(2)),
+        (b"f() except when a, : end", Err(2)),
+        (b"f() except when a (x: int) end", Err(2)),
+        (b"for i: int in int$from_to(1, 2, 3) do end", Err(2)),
+        (b"for i: int in t$elements() do end", Err(2)),
+        (b"tagcase x tag a (y): end", Err(2)),
+        (b"if a then else elseif b then end", Err(2)),
+        (b"for i: int in array[int]$from_to(1, 2) do end", Err(2)),
+        (b"f() except end end", Err(2)),
+        (b"except end", Err(2)),
+        (b"resignal a", Err(2)),
+        (b"when a: end", Err(2)),
+        (b"others: end", Err(2)),
     ];
     for (text, wanted) in table {
         let read = statement(&rt, rt.alloc(), text)?;
@@ -535,7 +548,7 @@ fn refuses_each_body(rt: HostRuntime) -> Result<(), Fail> {
 
 #[test]
 fn reads_each_part(rt: HostRuntime) -> Result<(), Fail> {
-    let table: [(&[u8], Result<(), u32>); 22] = [
+    let table: [(&[u8], Result<(), u32>); 24] = [
         (b"", Ok(())),
         (b"a = int", Ok(())),
         (b"a = record[b: c]", Ok(())),
@@ -570,9 +583,17 @@ fn reads_each_part(rt: HostRuntime) -> Result<(), Fail> {
             Ok(()),
         ),
         (b"node 1 is end node 2 is end a = proc () end a", Ok(())),
+        (
+            b"nodevar a: bool := false nodevar b: int := - 9223372036854775807",
+            Ok(()),
+        ),
+        (
+            b"a = cluster is print rep = null end a b = string c = bool d = semaphore e = lock",
+            Ok(()),
+        ),
     ];
     for (text, wanted) in table {
-        let read = program(&rt, rt.alloc(), text)?;
+        let read = read_text(&rt, rt.alloc(), text)?;
         assert_eq!(rt; read, wanted, "{}", text.escape_ascii());
     }
     Ok(())
@@ -580,7 +601,7 @@ fn reads_each_part(rt: HostRuntime) -> Result<(), Fail> {
 
 #[test]
 fn refuses_each_part(rt: HostRuntime) -> Result<(), Fail> {
-    let table: [(&[u8], Result<(), u32>); 42] = [
+    let table: [(&[u8], Result<(), u32>); 52] = [
         (b"a", Err(1)),
         (b"a =", Err(1)),
         (b"a =\n1", Err(2)),
@@ -623,84 +644,20 @@ fn refuses_each_part(rt: HostRuntime) -> Result<(), Fail> {
         (b"node 1 is a() end", Err(1)),
         (b"node 1 is end end", Err(1)),
         (b"end", Err(1)),
+        (b"a = proc () signals (f) returns (int) end a", Err(1)),
+        (b"a = proc () signals (f,) end a", Err(1)),
+        (b"a = cluster is b, rep = int end a", Err(1)),
+        (b"end = proc () end end", Err(1)),
+        (b"nodevar a: record[b: int] := record[b: int]$new()", Err(1)),
+        (b"node 1 is start a(-nil) end", Err(1)),
+        (b"node", Err(1)),
+        (b"nodevar a: int := ()", Err(1)),
+        (b"a = cluster is b rep = int b = proc () end b", Err(1)),
+        (b"node 1 is export a, b end", Err(1)),
     ];
     for (text, wanted) in table {
-        let read = program(&rt, rt.alloc(), text)?;
+        let read = read_text(&rt, rt.alloc(), text)?;
         assert_eq!(rt; read, wanted, "{}", text.escape_ascii());
-    }
-    Ok(())
-}
-
-#[test]
-fn reads_whole_programs(rt: HostRuntime) -> Result<(), Fail> {
-    for (name, text) in PROGRAMS {
-        assert_eq!(rt; program(&rt, rt.alloc(), text)?, Ok(()), "{name}");
-    }
-    no_text_has_two_trees();
-    Ok(())
-}
-
-/// `piece` so many times, `middle`, and `close` as many times, behind `before`, as statements.
-fn nested(
-    rt: &impl Abort,
-    alloc: Global,
-    way: &(&[u8], &[u8], &[u8], &[u8], usize),
-    more: usize,
-) -> Result<Result<(), u32>, Fail> {
-    let (before, piece, middle, close, count) = *way;
-    assert!(rt; count <= 200 && more <= 1);
-    let opened = repeated(alloc, before, piece, count + more, middle)?;
-    let whole = repeated(alloc, opened.as_slice(), close, count + more, b"")?;
-    statement(rt, alloc, whole.as_slice())
-}
-
-#[test]
-fn nests_200_deep(rt: HostRuntime) -> Result<(), Fail> {
-    let ways: [(&[u8], &[u8], &[u8], &[u8], usize); 30] = [
-        (b"x := ", b"-", b"1", b"", 198),
-        (b"x := ", b"~", b"a", b"", 198),
-        (b"x := 1", b"+1", b"", b"", 198),
-        (b"x := a", b"|b", b"", b"", 198),
-        (b"x := ", b"f(", b"1", b")", 198),
-        (b"x := ", b"t$op(", b"1", b")", 198),
-        (b"x := ", b"a[", b"1", b"]", 198),
-        (b"x := a", b".b", b"", b"", 198),
-        (b"x := a", b"[1]", b"", b"", 198),
-        (b"x := ", b"up(", b"1", b")", 198),
-        (b"x := ", b"t$[", b"1", b"]", 198),
-        (b"x := ", b"t${f: ", b"1", b"}", 198),
-        (b"x := ", b"(a = ", b"a", b")", 198),
-        (b"x := ", b"(a ~= ", b"a", b")", 99),
-        (b"x: ", b"array[", b"int", b"]", 198),
-        (b"x: ", b"record[a: ", b"int", b"]", 198),
-        (b"x: ", b"oneof[a: ", b"int", b"]", 198),
-        (b"", b"begin ", b"", b" end", 200),
-        (b"", b"if a then ", b"", b" end", 199),
-        (b"", b"if a then else ", b"", b" end", 199),
-        (b"", b"while a do ", b"", b" end", 199),
-        (b"", b"region a do ", b"", b" end", 199),
-        (b"", b"for i: t in t$elements(a) do ", b"", b" end", 199),
-        (b"", b"tagcase a tag b: ", b"", b" end", 199),
-        (b"", b"tagcase a others: ", b"", b" end", 199),
-        (b"f()", b" resignal a", b"", b"", 198),
-        (b"f()", b" except end", b"", b"", 198),
-        (b"", b"return except others: ", b"", b" end", 199),
-        (b"", b"f(", b"1", b")", 198),
-        (b"a", b".b", b".c := 1", b"", 198),
-    ];
-    for way in &ways {
-        assert_eq!(rt;
-            nested(&rt, rt.alloc(), way, 0)?,
-            Ok(()),
-            "{}",
-            way.1.escape_ascii()
-        );
-        assert_eq!(rt;
-            nested(&rt, rt.alloc(), way, 1)?,
-            Err(2),
-            "{}",
-            way.1.escape_ascii()
-        );
     }
     Ok(())
 }
@@ -730,35 +687,53 @@ fn reads_long_texts(rt: HostRuntime) -> Result<(), Fail> {
 }
 
 #[test]
-fn reads_the_lines_of_hello(rt: HostRuntime) -> Result<(), Fail> {
-    assert!(rt; HELLO.len() <= 1048576);
-    let found = tokens(rt.alloc(), HELLO)?;
-    let program = read_program(rt.alloc(), HELLO, found.as_slice())?;
-    match (program.routines.as_slice(), program.nodes.as_slice()) {
-        ([routine], [node]) => {
-            assert_eq!(rt;
-                (routine.name.as_slice(), routine.line),
-                (b"hello".as_slice(), 1)
-            );
-            assert_eq!(rt; (node.number, node.line), (1, 4));
-            match routine.body.as_slice() {
-                [Stmt::PutLine(Expr::Literal(Value::Str(text), line), 2)] => {
-                    assert_eq!(rt; (text.as_slice(), *line), (b"hi".as_slice(), 2));
-                }
-                _ => panic!(rt; "another body"),
-            }
-            match node.parts.as_slice() {
-                [NodePart::Start { name, args, line }] => {
-                    assert_eq!(rt;
-                        (name.as_slice(), args.len(), *line),
-                        (b"hello".as_slice(), 0, 4)
-                    );
-                }
-                _ => panic!(rt; "another block"),
-            }
-        }
-        _ => panic!(rt; "another program"),
+fn names_the_line_where_reading_fails(rt: HostRuntime) -> Result<(), Fail> {
+    let table: [(&[u8], u32); 20] = [
+        (b"a = proc ()\n  x := 1 +\n  * 2\nend a", 3),
+        (b"a = proc ()\n  f(1,\n    2\n  g()\nend a", 4),
+        (b"a = proc ()\n  f(1,\n    2))\nend a", 3),
+        (
+            b"a = proc ()\n  if b then\n  else\n  elseif c then\n  end\nend a",
+            4,
+        ),
+        (
+            b"a = proc ()\n  while b do\n    f()\nend a\n\nnode 1 is end\n",
+            6,
+        ),
+        (b"a = proc ()\n  f()\n  end\nend a", 4),
+        (b"a = proc ()\n  return (1\n\nend a\n\n", 4),
+        (
+            b"a = proc ()\nend a\nnode 1 is\n  start a()\n  stop\nend",
+            5,
+        ),
+        (b"a = proc ()\nend a\nnode 1 is\n  start a()\n\n", 5),
+        (
+            b"a = cluster is b\n  rep = int\n  b = proc ()\n  end c\nend a",
+            4,
+        ),
+        (b"a = proc (b: int,\n  c)\nend a", 2),
+        (b"a = proc ()\n  returns (int)\n  signals (b\nc) end a", 4),
+        (b"a = cluster is b,\n\nrep = int end a", 3),
+        (b"nodevar a: int := -\n  b", 2),
+        (b"a = record[b: int,\n  c: int\n  d: int]", 3),
+        (
+            b"a = proc ()\n  f() except\n    when b:\n    others: g()\n    when c: end\nend a",
+            5,
+        ),
+        (
+            b"a = proc ()\n  tagcase b\n    tag c (d: int):\n    tag e (f:\n    ): end\nend a",
+            5,
+        ),
+        (
+            b"a = proc ()\n  for i: int in\n    int$from_to(1,\n    2\n    3) do end\nend a",
+            5,
+        ),
+        (b"a = proc ()\n  x := maybe f() at 1\n  y := 2\nend a", 3),
+        (b"a = proc ()\n  b\n\n  := 1 c\nend a", 5),
+    ];
+    for (text, line) in table {
+        let read = read_text(&rt, rt.alloc(), text)?;
+        assert_eq!(rt; read, Err(line), "{}", text.escape_ascii());
     }
-    no_text_has_two_trees();
     Ok(())
 }
