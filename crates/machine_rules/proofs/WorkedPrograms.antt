@@ -7,7 +7,7 @@ use Rattle.clu_tree.specs.declared.value.Value.{Value}
 use Rattle.clu_tree.specs.declared.value.Value.TheVariants as value
 use Rattle.clu_tree.specs.declared.shape.Shape.{Shape}
 use Rattle.clu_tree.specs.declared.shape.Shape.TheVariants as shape
-use Rattle.clu_tree.specs.declared.shape.Named.{Named, roll-Named, out-roll-Named}
+use Rattle.clu_tree.specs.declared.shape.Named.{Named, roll-Named}
 use Rattle.clu_tree.specs.declared.op.Op.TheVariants as op
 use Rattle.clu_tree.specs.declared.tree.Meant.TheVariants as m
 use Rattle.clu_tree.specs.declared.tree.Infix.TheVariants as fix
@@ -18,7 +18,7 @@ use Rattle.clu_tree.specs.declared.tree.Expr.TheVariants as e
 use Rattle.clu_tree.specs.declared.tree.Stmt.{Stmt}
 use Rattle.clu_tree.specs.declared.tree.Stmt.TheVariants as s
 use Rattle.clu_tree.specs.declared.tree.Handlers.{Handlers, roll-Handlers, out-roll-Handlers}
-use Rattle.clu_tree.specs.declared.tree.When.{roll-When, out-roll-When}
+use Rattle.clu_tree.specs.declared.tree.When.{roll-When}
 use Rattle.clu_tree.specs.declared.program.Routine.{Routine}
 use Rattle.clu_tree.specs.declared.program.Program.{Program}
 use Rattle.obj_region.specs.declared.object.Obj.{Obj}
@@ -130,7 +130,7 @@ sum_begins = simp (s.outs-PutLine, e.outs-Op, e.outs-Call, e.outs-Literal) refl
 -- Exec return, three of Eval, Apply, Give
 sum_returns : run 6 sum_world (entry 1 adds addends ∷ frame behind_sum [] [] ∷ []) ≡
     Some (record { world = sum_world; frames = frame behind_sum [] (value.Int (pos 5) ∷ []) ∷ []; acts = []; left = [] })
-sum_returns = simp (s.outs-Return, e.outs-Binary, e.outs-Name, out-roll-Named) refl
+sum_returns = simp (s.outs-Return, e.outs-Binary, e.outs-Name) refl
 
 -- Apply, Print, Fall
 sum_ends : run 3 sum_world (frame behind_sum [] (value.Int (pos 5) ∷ []) ∷ []) ≡ over sum_world (act.Put (codes "5") ∷ act.Ended value.Nil ∷ [])
@@ -161,7 +161,7 @@ unhandled = act.Died (record { name = codes "failure"; value = Some (value.Str (
 -- Exec, Exec, Eval, Enter, Exec signal
 signals_lands : run 5 signals_world (begins signals_body) ≡
     Some (record { world = signals_world; frames = frame (i.Exec (text (codes "bad")) ∷ i.Exec oops ∷ i.Fall ∷ []) [] [] ∷ []; acts = []; left = [] })
-signals_lands = simp (s.outs-Except, s.outs-Call, s.outs-Signal, e.outs-Call, out-roll-Handlers, out-roll-When) refl
+signals_lands = simp (s.outs-Except, s.outs-Call, s.outs-Signal, e.outs-Call, out-roll-Handlers) refl
 
 -- Exec, Eval, Enter, Exec signal
 signals_dies : run 4 signals_world (frame (i.Exec oops ∷ i.Fall ∷ []) [] [] ∷ []) ≡ over signals_world (unhandled ∷ [])
