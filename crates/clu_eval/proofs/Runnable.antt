@@ -10,8 +10,8 @@ use Rattle.clu_eval.specs.Examples.{program, ran, text, nap_body, three_quotient
 some_of : (o : Option Ran) (r : Ran) → o ≡ Some r → IsSome o
 some_of o r e = rw e refl
 
-pub nothing : (body : List Stmt) (others : List Routine) → body ≡ [] → others ≡ [] → IsSome (ran 1 (program body others))
-nothing body others e k = rw (e, k) (some_of _ _ worked.nothing)
+pub nothing : (body : List Stmt) (others : List Routine) → body ≡ [] → IsSome (ran 1 (program body others))
+nothing body others e = rw e refl
 
 pub hello : (body : List Stmt) (others : List Routine) → body ≡ text (codes "hi") ∷ [] → others ≡ [] → IsSome (ran 4 (program body others))
 hello body others e k = rw (e, k) (some_of _ _ worked.hello)

@@ -1,9 +1,8 @@
 -- A run that is there goes on behind each of its steps.
-use Rattle.std.proofs.Common.{◌≡◌, ℕ, suc, ◌+◌, ◌<◌, List, [], Option, Some, None, IsSome, slice_get, refl, subst, arith}
+use Rattle.std.proofs.Common.{◌≡◌, ℕ, suc, ◌+◌, ◌<◌, List, [], Option, Some, None, IsSome, refl, subst, arith}
 use Rattle.std.specs.Prelude.{◌-◌}
 use Rattle.clu_tree.specs.declared.value.Addr.{Addr}
 use Rattle.clu_tree.specs.declared.value.Value.{Value}
-use Rattle.clu_tree.specs.declared.program.Routine.{Routine}
 use Rattle.clu_tree.specs.declared.program.Program.{Program}
 use Rattle.obj_region.specs.Store.{Store}
 use Rattle.obj_region.specs.Answers.{region_seen}
@@ -11,10 +10,9 @@ use Rattle.eval_objects.specs.Seen.{took}
 use Rattle.machine_rules.specs.declared.frame.Frame.{Frame}
 use Rattle.machine_rules.specs.declared.act.Act.{Act}
 use Rattle.machine_rules.specs.declared.act.Act.TheVariants as act
-use Rattle.machine_rules.specs.Row.{World, Next, row, start}
+use Rattle.machine_rules.specs.Row.{World, Next, row}
 use Rattle.machine_rules.specs.Runs.{Ran, after, begun, run, stepping, vars_after}
 use Rattle.clu_eval.specs.Steps.{world_at}
-use Rattle.clu_eval.specs.Examples.{ran, ran_in}
 
 -- where a step is taken over a region, by a node without variables
 abbrev pub in_region : Program → Store → World
@@ -50,19 +48,3 @@ rest_there steps step p objects fs left does store frames more e h =
     let j : IsSome (begun next (run n (after next w) frames)) = subst (λ (o : Option Next). IsSome (stepping o (λ next. run n (after next w) next.frames))) e k in
     let r : IsSome (run n (after next w) frames) = begun_some next (run n (after next w) frames) j in
     subst (λ (vars : List (Option Value)). IsSome (run n (record { program = p; store = store; bound = 0; vars = vars; time = 0 }) frames)) (none_set does) r
-
-ran_some : (n : ℕ) (p : Program) (o : Option Routine) → IsSome (ran_in n p o) → IsSome o
-ran_some n p None h = h
-ran_some n p (Some r) h = refl
-
--- a program that runs has a first routine
-pub routine_there : (n : ℕ) (p : Program) → IsSome (ran n p) → IsSome (slice_get p.routines 0)
-routine_there n p h = ran_some n p (slice_get p.routines 0) h
-
-begun_in : (n : ℕ) (p : Program) (o : Option Routine) (fs : List Frame) → ((r : Routine) → o ≡ Some r → fs ≡ start 0 r []) → IsSome (ran_in n p o) → IsSome (run n (in_region p []) fs)
-begun_in n p None fs f h = cc
-begun_in n p (Some r) fs f h = rw (f r refl) h
-
--- and the run is there from the frames with which it begins
-pub run_there : (n : ℕ) (p : Program) (fs : List Frame) (args : List Value) → args ≡ [] → ((r : Routine) → slice_get p.routines 0 ≡ Some r → fs ≡ start 0 r args) → IsSome (ran n p) → IsSome (run n (in_region p []) fs)
-run_there n p fs args none f h = begun_in n p (slice_get p.routines 0) fs (rw none at f) h
