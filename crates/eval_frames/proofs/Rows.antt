@@ -1,6 +1,7 @@
--- What holds of a row in every world.
-use Rattle.std.proofs.Common.{◌≡◌, List, Option, IfOk, Result, Ok, Err, ◌∙◌}
+-- What holds of a row in every world, and rows that are another one.
+use Rattle.std.proofs.Common.{◌≡◌, List, Option, Some, IfOk, Result, Ok, Err, ◌∙◌}
 use Rattle.std.specs.declared.alloc.AllocError.{AllocError}
+use Rattle.obj_region.specs.Store.{Store}
 use Rattle.machine_rules.specs.declared.frame.Frame.{Frame}
 use Rattle.machine_rules.specs.declared.act.StepEnd.{StepEnd}
 use Rattle.machine_rules.specs.World.{World, Next, gives}
@@ -14,3 +15,8 @@ here w (Err error) x after row h e = tt
 pub through : (r : Result StepEnd AllocError) (x row : World → Option Next) (after : List Frame) → IfOk r (λ end. (w : World) → x w ≡ gives w end.left end.act after) → ((w : World) → row w ≡ x w) → IfOk r (λ end. (w : World) → row w ≡ gives w end.left end.act after)
 through (Ok end) x row after h e = λ w. e w ∙ h w
 through (Err error) x row after h e = tt
+
+-- a row is another one, which leaves these objects and these frames
+pub by_row : (store : Store) (r : Result StepEnd AllocError) (x : Option Next) (after : List Frame) (row : Option Next) → IfOk r (λ end. x ≡ Some (record { left = end.left; act = end.act; store = store; frames = after })) → row ≡ x → IfOk r (λ end. row ≡ Some (record { left = end.left; act = end.act; store = store; frames = after }))
+by_row store (Ok end) x after row h e = e ∙ h
+by_row store (Err error) x after row h e = tt

@@ -66,11 +66,6 @@ pub here_with : (w : World) (store : Store) (r : Result StepEnd AllocError) (x :
 here_with w store (Ok end) x after row h e = e ∙ h (record w { store = store })
 here_with w store (Err error) x after row h e = tt
 
--- a row is another one
-pub by_row : (store : Store) (r : Result StepEnd AllocError) (x : Option Next) (after : List Frame) (row : Option Next) → IfOk r (λ end. x ≡ took end.left end.act store after) → row ≡ x → IfOk r (λ end. row ≡ took end.left end.act store after)
-by_row store (Ok end) x after row h e = e ∙ h
-by_row store (Err error) x after row h e = tt
-
 -- a row is another one, and the objects are the world's
 pub by_row_in : (w : World) (store : Store) (r : Result StepEnd AllocError) (x : Option Next) (after : List Frame) (row : Option Next) → IfOk r (λ end. x ≡ gives w end.left end.act after) → row ≡ x → w.store ≡ store → IfOk r (λ end. row ≡ took end.left end.act store after)
 by_row_in w store (Ok end) x after row h e k = e ∙ h ∙ ap (λ (objects : Store). took end.left end.act objects after) k

@@ -1,5 +1,5 @@
 -- The steps of small programs, computed: their number, what they print, and how they end.
-use Rattle.std.proofs.Common.{◌≡◌, ℕ, pos, negsuc, List, [], ◌∷◌, codes, Option, Some, None, slice_get, refl, arith}
+use Rattle.std.proofs.Common.{◌≡◌, ℕ, pos, negsuc, List, [], ◌∷◌, ◌++◌, codes, Option, Some, None, slice_get, refl, arith}
 use Rattle.std.specs.Prelude.{◌-◌, ◌^◌}
 use Rattle.std.specs.Fmt.{decimal}
 use Rattle.std.proofs.lemmas.Fmt.{decimal-digits_of}
@@ -8,15 +8,12 @@ use Rattle.clu_tree.specs.declared.value.Value.{Value}
 use Rattle.clu_tree.specs.declared.value.Value.TheVariants as value
 use Rattle.clu_tree.specs.declared.shape.Shape.TheVariants as shape
 use Rattle.clu_tree.specs.declared.op.Op.TheVariants as op
-use Rattle.clu_tree.specs.declared.tree.Meant.TheVariants as m
 use Rattle.clu_tree.specs.declared.tree.Infix.TheVariants as fix
-use Rattle.clu_tree.specs.declared.tree.Prefix.TheVariants as pre
-use Rattle.clu_tree.specs.declared.tree.Expr.{Expr, out-Expr}
+use Rattle.clu_tree.specs.declared.tree.Expr.{out-Expr}
 use Rattle.clu_tree.specs.declared.tree.Expr.TheVariants as e
 use Rattle.clu_tree.specs.declared.tree.Stmt.{Stmt, out-Stmt}
 use Rattle.clu_tree.specs.declared.tree.Stmt.TheVariants as s
-use Rattle.clu_tree.specs.declared.tree.Handlers.{Handlers, roll-Handlers, out-roll-Handlers}
-use Rattle.clu_tree.specs.declared.tree.When.{roll-When}
+use Rattle.clu_tree.specs.declared.tree.Handlers.{out-roll-Handlers}
 use Rattle.clu_tree.specs.declared.program.Routine.{Routine}
 use Rattle.obj_region.specs.declared.object.Obj.TheVariants as obj
 use Rattle.machine_rules.specs.declared.item.Catch.TheVariants.{Handle}
@@ -26,43 +23,37 @@ use Rattle.machine_rules.specs.declared.frame.Var.{Var}
 use Rattle.machine_rules.specs.declared.frame.Frame.{Frame}
 use Rattle.machine_rules.specs.declared.act.Act.{Act}
 use Rattle.machine_rules.specs.declared.act.Act.TheVariants as act
+use Rattle.machine_rules.specs.Examples.{both, divided, least, minus, int, nap_body, program, routine, says, text, third, three_quotients, wide}
 use Rattle.machine_rules.specs.Row.{World, bare_world, start}
 use Rattle.machine_rules.specs.Runs.{Ran, run}
 use Rattle.machine_rules.proofs.Runs.{run_on}
 
--- a program of one routine with this body
-abbrev routine : List Stmt → Routine
-routine body = record { name = codes "p"; params = []; result = None; signals = []; body = body; line = 1 }
+abbrev main : List Stmt → Routine
+main body = routine (codes "p") [] None body
 
 abbrev world : List Stmt → World
-world body = bare_world (record { equates = []; node_vars = []; routines = routine body ∷ []; clusters = []; nodes = [] }) 0
+world body = bare_world (program body []) 0
 
 -- so many steps from its start
 abbrev ran : ℕ → List Stmt → Option Ran
-ran n body = run n (world body) (start 0 (routine body) [])
+ran n body = run n (world body) (start 0 (main body) [])
 
 -- it is over after those steps, which had these acts
 abbrev over : List Stmt → List Act → Option Ran
 over body acts = Some (record { world = world body; frames = []; acts = acts; left = [] })
-
-abbrev text : List ℕ → Stmt
-text t = s.PutLine (e.Literal (value.Str t) 2) 2
 
 -- one line is printed in four steps
 pub hello : ran 4 (text (codes "hi") ∷ []) ≡ over (text (codes "hi") ∷ []) (act.Put (codes "hi") ∷ act.Ended value.Nil ∷ [])
 unfolding out-Expr out-Stmt Carrier.out
 hello = refl
 
-abbrev nap_body : ℕ → List Stmt
-nap_body ms = s.Sleep (e.Literal (value.Int (pos ms)) 2) 2 ∷ text (codes "up") ∷ []
-
 -- a sleep takes three steps, and goes on behind it
-pub nap : ran 7 (nap_body 100) ≡ over (nap_body 100) (act.Sleep (pos 100) ∷ act.Put (codes "up") ∷ act.Ended value.Nil ∷ [])
+pub nap : ran 7 (nap_body (pos 100)) ≡ over (nap_body (pos 100)) (act.Sleep (pos 100) ∷ act.Put (codes "up") ∷ act.Ended value.Nil ∷ [])
 unfolding out-Expr out-Stmt Carrier.out
 nap = refl
 
 -- a sleep of no time doesn't wait
-pub no_nap : ran 7 (nap_body 0) ≡ over (nap_body 0) (act.Put (codes "up") ∷ act.Ended value.Nil ∷ [])
+pub no_nap : ran 7 (nap_body (pos 0)) ≡ over (nap_body (pos 0)) (act.Put (codes "up") ∷ act.Ended value.Nil ∷ [])
 unfolding out-Expr out-Stmt Carrier.out
 no_nap = refl
 
@@ -72,41 +63,8 @@ nothing = refl
 
 -- ---- quotients, remainders, an overflow and a bound
 
-abbrev int : ℕ → Expr
-int n = e.Literal (value.Int (pos n)) 2
-
-abbrev minus : Expr → Expr
-minus x = e.Unary pre.Minus x 2 (m.Op op.IntMinus)
-
-abbrev shown : Expr → Stmt
-shown x = s.PutLine (e.Op shape.Int (codes "unparse") (x ∷ []) 2 (m.Op op.IntUnparse)) 2
-
-abbrev when : List ℕ → List Stmt → Handlers
-when n body = roll-Handlers (record { whens = roll-When (record { names = n ∷ []; variable = None; body = body }) ∷ []; others = None })
-
-abbrev quot : Stmt
-quot = shown (e.Binary (minus (int 7)) fix.Div (int 2) 2 (m.Op op.IntDiv))
-
-abbrev rem : Stmt
-rem = shown (e.Binary (minus (int 7)) fix.Mod (int 2) 2 (m.Op op.IntMod))
-
-abbrev least : Expr
-least = e.Binary (minus (int (2 ^ 63 - 1))) fix.Sub (int 1) 2 (m.Op op.IntSub)
-
-abbrev says_overflow : Handlers
-says_overflow = when (codes "overflow") (text (codes "overflow") ∷ [])
-
-abbrev wide : Stmt
-wide = s.Except (shown (e.Binary least fix.Div (minus (int 1)) 2 (m.Op op.IntDiv))) says_overflow
-
-abbrev both : Stmt
-both = s.Declare (codes "a") (shape.Arr shape.Int) (Some (e.Array (shape.Arr shape.Int) (int 5 ∷ int 6 ∷ []) 2 m.Unknown)) 2
-
-abbrev third : Stmt
-third = s.Except (shown (e.Index (e.Name (codes "a") 2 m.Local) (int 3) 2 (m.Op op.ArrFetch))) (when (codes "bounds") (text (codes "bounds") ∷ []))
-
 abbrev arith_body : List Stmt
-arith_body = quot ∷ rem ∷ wide ∷ both ∷ third ∷ []
+arith_body = three_quotients ++ both ∷ third ∷ []
 
 abbrev frame : List Item → List Var → List Value → Frame
 frame work vars values = record { routine = 0; line = 2; vars = vars; work = work; values = values }
@@ -125,10 +83,10 @@ decimal_four = decimal-digits_of 4 (omega arith) (omega arith)
 decimal_one : decimal 1 ≡ codes "1"
 decimal_one = decimal-digits_of 1 (omega arith) (omega arith)
 
-quot_steps : (w : World) (was : ℕ) (work : List Item) → run 10 w (record (frame (i.Exec quot ∷ work) [] []) { line = was } ∷ []) ≡ printed w (codes "-4") work []
+quot_steps : (w : World) (was : ℕ) (work : List Item) → run 10 w (record (frame (i.Exec (divided fix.Div op.IntDiv) ∷ work) [] []) { line = was } ∷ []) ≡ printed w (codes "-4") work []
 quot_steps w was work = simp (s.outs-PutLine, e.outs-Op, e.outs-Binary, e.outs-Unary, e.outs-Literal, decimal_four) refl
 
-rem_steps : (w : World) (work : List Item) → run 10 w (frame (i.Exec rem ∷ work) [] [] ∷ []) ≡ printed w (codes "1") work []
+rem_steps : (w : World) (work : List Item) → run 10 w (frame (i.Exec (divided fix.Mod op.IntMod) ∷ work) [] [] ∷ []) ≡ printed w (codes "1") work []
 rem_steps w work = simp (s.outs-PutLine, e.outs-Op, e.outs-Binary, e.outs-Unary, e.outs-Literal, decimal_one) refl
 
 -- the statement `put_line(t)` takes three steps
@@ -137,7 +95,7 @@ text_steps w t work vars = simp (s.outs-PutLine, e.outs-Literal) refl
 
 -- from the statement to the quotient's left operand
 abbrev behind_least : List Item → List Item
-behind_least work = i.Eval (minus (int 1)) ∷ i.Apply op.IntDiv ∷ i.Apply op.IntUnparse ∷ i.Print ∷ i.Guard (Handle says_overflow) ∷ work
+behind_least work = i.Eval (minus (int (pos 1))) ∷ i.Apply op.IntDiv ∷ i.Apply op.IntUnparse ∷ i.Print ∷ i.Guard (Handle (says (codes "overflow"))) ∷ work
 
 wide_first : (w : World) (work : List Item) → run 4 w (frame (i.Exec wide ∷ work) [] [] ∷ []) ≡ went w (i.Eval least ∷ behind_least work) [] []
 wide_first w work = simp (s.outs-Except, s.outs-PutLine, e.outs-Op, e.outs-Binary) refl
@@ -192,9 +150,9 @@ arith_steps =
     let last = i.Exec third ∷ i.Fall ∷ [] in
     let fourth = i.Exec both ∷ last in
     let behind = i.Exec wide ∷ fourth in
-    run_on 10 44 _ w (start 0 (routine arith_body) []) _ (quot_steps w 1 (i.Exec rem ∷ behind))
-    (run_on 10 34 _ w (frame (i.Exec rem ∷ behind) [] [] ∷ []) _ (rem_steps w behind)
+    run_on 10 44 _ w (start 0 (main arith_body) []) _ (quot_steps w 1 (i.Exec (divided fix.Mod op.IntMod) ∷ behind))
+    (run_on 10 34 _ w (frame (i.Exec (divided fix.Mod op.IntMod) ∷ behind) [] [] ∷ []) _ (rem_steps w behind)
     (run_on 17 17 _ w (frame behind [] [] ∷ []) _ (wide_steps w fourth)
     (run_on 6 11 _ w (frame fourth [] [] ∷ []) _ (both_steps w last)
     (run_on 10 1 _ (made w) (frame last (array ∷ []) [] ∷ []) _ (third_steps w (i.Fall ∷ []))
-    (fall_steps (made w) (routine arith_body) (array ∷ []) refl refl)))))
+    (fall_steps (made w) (main arith_body) (array ∷ []) refl refl)))))

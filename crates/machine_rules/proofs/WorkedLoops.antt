@@ -2,7 +2,6 @@
 use Rattle.std.proofs.Common.{◌≡◌, ℕ, pos, List, [], ◌∷◌, codes, Option, Some, refl, arith}
 use Rattle.std.specs.Fmt.{decimal}
 use Rattle.std.proofs.lemmas.Fmt.{decimal-digits_of}
-use Rattle.clu_tree.specs.declared.value.Addr.{Addr}
 use Rattle.clu_tree.specs.declared.value.Value.{Value}
 use Rattle.clu_tree.specs.declared.value.Value.TheVariants as value
 use Rattle.clu_tree.specs.declared.shape.Shape.TheVariants as shape
@@ -25,6 +24,7 @@ use Rattle.machine_rules.specs.declared.frame.Var.{Var}
 use Rattle.machine_rules.specs.declared.frame.Frame.{Frame}
 use Rattle.machine_rules.specs.declared.act.Act.{Act}
 use Rattle.machine_rules.specs.declared.act.Act.TheVariants as act
+use Rattle.machine_rules.specs.Examples.{at, int, local, shown}
 use Rattle.machine_rules.specs.Row.{World, bare_world}
 use Rattle.machine_rules.specs.Runs.{Ran, run}
 use Rattle.machine_rules.proofs.Runs.{run_on}
@@ -43,25 +43,16 @@ frame work vars = record { routine = 0; line = 2; vars = vars; work = work; valu
 abbrev did : World → List Act → List Item → List Var → Option Ran
 did w acts work vars = Some (record { world = w; frames = frame work vars ∷ []; acts = acts; left = [] })
 
-abbrev int : ℕ → Expr
-int n = e.Literal (value.Int (pos n)) 2
-
-abbrev local : List ℕ → Expr
-local x = e.Name x 2 m.Local
-
-abbrev at : ℕ → Addr
-at n = record { 0 = n }
-
 abbrev counts : ℕ → Var
 counts n = record { name = codes "i"; shape = shape.Int; value = Some (value.Int (pos n)) }
 
 -- ---- `while i < 1 do i := i + 1 end`
 
 abbrev below_one : Expr
-below_one = e.Binary (local (codes "i")) fix.Lt (int 1) 2 (m.Op op.IntLt)
+below_one = e.Binary (local (codes "i")) fix.Lt (int (pos 1)) 2 (m.Op op.IntLt)
 
 abbrev one_more : Stmt
-one_more = s.Assign (target.Name (codes "i") 2 m.Local) (e.Binary (local (codes "i")) fix.Add (int 1) 2 (m.Op op.IntAdd)) 2
+one_more = s.Assign (target.Name (codes "i") 2 m.Local) (e.Binary (local (codes "i")) fix.Add (int (pos 1)) 2 (m.Op op.IntAdd)) 2
 
 abbrev again : Stmt
 again = roll-Stmt (sf.While below_one (one_more ∷ []) 2)
@@ -85,16 +76,16 @@ while_steps work =
 
 -- ---- `for i: int in int$from_to(1, 3) do put_line(int$unparse(i)) end`
 
-abbrev shown : Stmt
-shown = s.PutLine (e.Op shape.Int (codes "unparse") (local (codes "i") ∷ []) 2 (m.Op op.IntUnparse)) 2
+abbrev shows_i : Stmt
+shows_i = shown (local (codes "i"))
 
 abbrev rounds : ℕ → Item
-rounds n = i.Next (codes "i") shape.Int (shown ∷ []) (pos n) (pos 3)
+rounds n = i.Next (codes "i") shape.Int (shows_i ∷ []) (pos n) (pos 3)
 
 -- Exec, two of Eval, ForInt, Next
 for_steps : (work : List Item) →
-    run 5 world (frame (i.Exec (s.For (codes "i") shape.Int (iter.FromTo (int 1) (int 3) 2) (shown ∷ []) 2) ∷ work) [] ∷ []) ≡
-    did world [] (i.Exec shown ∷ rounds 2 ∷ work) (counts 1 ∷ [])
+    run 5 world (frame (i.Exec (s.For (codes "i") shape.Int (iter.FromTo (int (pos 1)) (int (pos 3)) 2) (shows_i ∷ []) 2) ∷ work) [] ∷ []) ≡
+    did world [] (i.Exec shows_i ∷ rounds 2 ∷ work) (counts 1 ∷ [])
 for_steps work = simp (exprs, stmts) refl
 
 decimal_one : decimal 1 ≡ codes "1"
@@ -107,21 +98,21 @@ decimal_three : decimal 3 ≡ codes "3"
 decimal_three = decimal-digits_of 3 (omega arith) (omega arith)
 
 -- the body's five, Next
-first_round : (work : List Item) → run 6 world (frame (i.Exec shown ∷ rounds 2 ∷ work) (counts 1 ∷ []) ∷ []) ≡
-    did world (act.Put (codes "1") ∷ []) (i.Exec shown ∷ rounds 3 ∷ work) (counts 2 ∷ [])
+first_round : (work : List Item) → run 6 world (frame (i.Exec shows_i ∷ rounds 2 ∷ work) (counts 1 ∷ []) ∷ []) ≡
+    did world (act.Put (codes "1") ∷ []) (i.Exec shows_i ∷ rounds 3 ∷ work) (counts 2 ∷ [])
 first_round work = simp (exprs, s.outs-PutLine, decimal_one) refl
 
-second_round : (work : List Item) → run 6 world (frame (i.Exec shown ∷ rounds 3 ∷ work) (counts 2 ∷ []) ∷ []) ≡
-    did world (act.Put (codes "2") ∷ []) (i.Exec shown ∷ work) (counts 3 ∷ [])
+second_round : (work : List Item) → run 6 world (frame (i.Exec shows_i ∷ rounds 3 ∷ work) (counts 2 ∷ []) ∷ []) ≡
+    did world (act.Put (codes "2") ∷ []) (i.Exec shows_i ∷ work) (counts 3 ∷ [])
 second_round work = simp (exprs, s.outs-PutLine, decimal_two) refl
 
 -- the body's five
-third_round : (work : List Item) → run 5 world (frame (i.Exec shown ∷ work) (counts 3 ∷ []) ∷ []) ≡ did world (act.Put (codes "3") ∷ []) work (counts 3 ∷ [])
+third_round : (work : List Item) → run 5 world (frame (i.Exec shows_i ∷ work) (counts 3 ∷ []) ∷ []) ≡ did world (act.Put (codes "3") ∷ []) work (counts 3 ∷ [])
 third_round work = simp (exprs, s.outs-PutLine, decimal_three) refl
 
 -- bounds that are out of order: Exec, two of Eval, ForInt, Next
 no_rounds : (work : List Item) →
-    run 5 world (frame (i.Exec (s.For (codes "i") shape.Int (iter.FromTo (int 2) (int 1) 2) (shown ∷ []) 2) ∷ work) [] ∷ []) ≡ did world [] work []
+    run 5 world (frame (i.Exec (s.For (codes "i") shape.Int (iter.FromTo (int (pos 2)) (int (pos 1)) 2) (shows_i ∷ []) 2) ∷ work) [] ∷ []) ≡ did world [] work []
 no_rounds work = simp (exprs, stmts) refl
 
 -- ---- arrays and records
@@ -147,12 +138,12 @@ elements_steps work = simp (exprs, stmts) refl
 
 -- `a[2] := 7`: Exec, three of Eval, Apply, Drop
 store_steps : (work : List Item) →
-    run 6 (holding (ints (5 ∷ 6 ∷ []))) (frame (i.Exec (s.Assign (target.Index (local (codes "a")) (int 2) 2 (m.Op op.ArrStore)) (int 7) 2) ∷ work) (a ∷ []) ∷ []) ≡
+    run 6 (holding (ints (5 ∷ 6 ∷ []))) (frame (i.Exec (s.Assign (target.Index (local (codes "a")) (int (pos 2)) 2 (m.Op op.ArrStore)) (int (pos 7)) 2) ∷ work) (a ∷ []) ∷ []) ≡
     did (holding (ints (5 ∷ 7 ∷ []))) [] work (a ∷ [])
 store_steps work = simp (exprs, stmts) refl
 
 abbrev added : Stmt
-added = s.Call (e.Op (shape.Arr shape.Int) (codes "addh") (local (codes "a") ∷ int 7 ∷ []) 2 (m.Op op.ArrAddh)) 2
+added = s.Call (e.Op (shape.Arr shape.Int) (codes "addh") (local (codes "a") ∷ int (pos 7) ∷ []) 2 (m.Op op.ArrAddh)) 2
 
 -- `array[int]$addh(a, 7)`: Exec, three of Eval, Apply, Drop
 addh_steps : (work : List Item) → run 6 (holding (ints (5 ∷ []))) (frame (i.Exec added ∷ work) (a ∷ []) ∷ []) ≡ did (holding (ints (5 ∷ 7 ∷ []))) [] work (a ∷ [])
@@ -172,11 +163,11 @@ field_sum = e.Field (local (codes "r")) (codes "sum") 2 (m.Field 0)
 
 -- `r.sum := r.sum + 1`: Exec, Eval, the four of the sum and its Apply, Apply set, Drop
 set_steps : (work : List Item) →
-    run 10 (holding (obj.Rec (value.Int (pos 5) ∷ []))) (frame (i.Exec (s.Assign (target.Field (local (codes "r")) (codes "sum") 2 (m.Field 0)) (e.Binary field_sum fix.Add (int 1) 2 (m.Op op.IntAdd)) 2) ∷ work) (r ∷ []) ∷ []) ≡
+    run 10 (holding (obj.Rec (value.Int (pos 5) ∷ []))) (frame (i.Exec (s.Assign (target.Field (local (codes "r")) (codes "sum") 2 (m.Field 0)) (e.Binary field_sum fix.Add (int (pos 1)) 2 (m.Op op.IntAdd)) 2) ∷ work) (r ∷ []) ∷ []) ≡
     did (holding (obj.Rec (value.Int (pos 6) ∷ []))) [] work (r ∷ [])
 set_steps work = simp (exprs, stmts) refl
 
 -- `T${sum: 5}`: Eval, Eval, Apply
-record_steps : (work : List Item) → run 3 world (frame (i.Eval (e.Record (shape.Name (codes "pair")) (roll-FieldInit (record { name = codes "sum"; value = int 5 }) ∷ []) 2 m.Unknown) ∷ work) [] ∷ []) ≡
+record_steps : (work : List Item) → run 3 world (frame (i.Eval (e.Record (shape.Name (codes "pair")) (roll-FieldInit (record { name = codes "sum"; value = int (pos 5) }) ∷ []) 2 m.Unknown) ∷ work) [] ∷ []) ≡
     Some (record { world = holding (obj.Rec (value.Int (pos 5) ∷ [])); frames = record (frame work []) { values = value.Ref (at 0) ∷ [] } ∷ []; acts = []; left = [] })
 record_steps work = simp exprs refl

@@ -2,48 +2,38 @@
 use Rattle.std.proofs.Common.{◌≡◌, ℕ, pos, List, [], ◌∷◌, codes, Option, Some, None, refl, arith}
 use Rattle.std.specs.Fmt.{decimal}
 use Rattle.std.proofs.lemmas.Fmt.{decimal-digits_of}
-use Rattle.clu_tree.specs.declared.value.Addr.{Addr}
 use Rattle.clu_tree.specs.declared.value.Value.{Value}
 use Rattle.clu_tree.specs.declared.value.Value.TheVariants as value
-use Rattle.clu_tree.specs.declared.shape.Shape.{Shape}
 use Rattle.clu_tree.specs.declared.shape.Shape.TheVariants as shape
-use Rattle.clu_tree.specs.declared.shape.Named.{Named, roll-Named, out-roll-Named}
+use Rattle.clu_tree.specs.declared.shape.Named.{out-roll-Named}
 use Rattle.clu_tree.specs.declared.op.Op.TheVariants as op
-use Rattle.clu_tree.specs.declared.tree.Meant.TheVariants as m
-use Rattle.clu_tree.specs.declared.tree.Infix.TheVariants as fix
-use Rattle.clu_tree.specs.declared.tree.Iter.TheVariants as iter
-use Rattle.clu_tree.specs.declared.tree.Target.TheVariants as target
-use Rattle.clu_tree.specs.declared.tree.Expr.{Expr}
 use Rattle.clu_tree.specs.declared.tree.Expr.TheVariants as e
 use Rattle.clu_tree.specs.declared.tree.Stmt.{Stmt}
 use Rattle.clu_tree.specs.declared.tree.Stmt.TheVariants as s
-use Rattle.clu_tree.specs.declared.tree.Handlers.{Handlers, roll-Handlers, out-roll-Handlers}
-use Rattle.clu_tree.specs.declared.tree.When.{roll-When, out-roll-When}
+use Rattle.clu_tree.specs.declared.tree.Handlers.{out-roll-Handlers}
+use Rattle.clu_tree.specs.declared.tree.When.{out-roll-When}
 use Rattle.clu_tree.specs.declared.program.Routine.{Routine}
 use Rattle.obj_region.specs.declared.object.Obj.{Obj}
 use Rattle.obj_region.specs.declared.object.Obj.TheVariants as obj
-use Rattle.machine_rules.specs.declared.item.Catch.TheVariants.{Handle}
 use Rattle.machine_rules.specs.declared.item.Item.{Item}
 use Rattle.machine_rules.specs.declared.item.Item.TheVariants as i
 use Rattle.machine_rules.specs.declared.frame.Var.{Var}
 use Rattle.machine_rules.specs.declared.frame.Frame.{Frame}
 use Rattle.machine_rules.specs.declared.act.Act.{Act}
 use Rattle.machine_rules.specs.declared.act.Act.TheVariants as act
+use Rattle.machine_rules.specs.Examples.{added, adds, all_shown, array_loop, at, changed, ints, local, lock, locked, oops, program, routine, shown, signals_bad, text, two_signals, var}
 use Rattle.machine_rules.specs.Row.{World, bare_world, entry, start}
 use Rattle.machine_rules.specs.Runs.{Ran, run}
 use Rattle.machine_rules.proofs.Runs.{run_on}
 
 -- ---- programs and frames
 
-abbrev routine : List ℕ → List Named → Option Shape → List Stmt → Routine
-routine name params result body = record { name = name; params = params; result = result; signals = []; body = body; line = 1 }
-
 abbrev main : List Stmt → Routine
 main body = routine (codes "p") [] None body
 
 -- where a program begins whose first routine has this body
 abbrev world : List Stmt → List Routine → World
-world body others = bare_world (record { equates = []; node_vars = []; routines = main body ∷ others; clusters = []; nodes = [] }) 0
+world body others = bare_world (program body others) 0
 
 abbrev begins : List Stmt → List Frame
 begins body = start 0 (main body) []
@@ -63,32 +53,6 @@ did w acts work vars = Some (record { world = w; frames = frame work vars [] ∷
 abbrev over : World → List Act → Option Ran
 over w acts = Some (record { world = w; frames = []; acts = acts; left = [] })
 
-abbrev at : ℕ → Addr
-at n = record { 0 = n }
-
-abbrev var : List ℕ → Shape → Value → Var
-var x t v = record { name = x; shape = t; value = Some v }
-
--- ---- trees
-
-abbrev int : ℕ → Expr
-int n = e.Literal (value.Int (pos n)) 2
-
-abbrev local : List ℕ → Expr
-local x = e.Name x 2 m.Local
-
-abbrev call : List ℕ → List Expr → Expr
-call name args = e.Call name args 2 (m.Routine 1)
-
-abbrev text : List ℕ → Stmt
-text t = s.PutLine (e.Literal (value.Str t) 2) 2
-
-abbrev shown : Expr → Stmt
-shown x = s.PutLine (e.Op shape.Int (codes "unparse") (x ∷ []) 2 (m.Op op.IntUnparse)) 2
-
-abbrev says : List ℕ → Handlers
-says n = roll-Handlers (record { whens = roll-When (record { names = n ∷ []; variable = None; body = text n ∷ [] }) ∷ []; others = None })
-
 -- `put_line(t)`: Exec, Eval, Print
 text_steps : (w : World) (t : List ℕ) (work : List Item) (vars : List Var) → run 3 w (frame (i.Exec (text t) ∷ work) vars [] ∷ []) ≡ did w (act.Put t ∷ []) work vars
 text_steps w t work vars = simp (s.outs-PutLine, e.outs-Literal) refl
@@ -101,20 +65,8 @@ decimal_seven = decimal-digits_of 7 (omega arith) (omega arith)
 
 -- ---- `put_line(int$unparse(add(2, 3)))`
 
-abbrev int_named : List ℕ → Named
-int_named name = roll-Named (record { name = name; shape = shape.Int })
-
-abbrev returned : Stmt
-returned = s.Return (Some (e.Binary (local (codes "a")) fix.Add (local (codes "b")) 2 (m.Op op.IntAdd))) 2
-
-abbrev adds : Routine
-adds = routine (codes "add") (int_named (codes "a") ∷ int_named (codes "b") ∷ []) (Some shape.Int) (returned ∷ [])
-
-abbrev sum_body : List Stmt
-sum_body = shown (call (codes "add") (int 2 ∷ int 3 ∷ [])) ∷ []
-
 abbrev sum_world : World
-sum_world = world sum_body (adds ∷ [])
+sum_world = world (added ∷ []) (adds ∷ [])
 
 abbrev behind_sum : List Item
 behind_sum = i.Apply op.IntUnparse ∷ i.Print ∷ i.Fall ∷ []
@@ -123,7 +75,7 @@ abbrev addends : List Value
 addends = value.Int (pos 2) ∷ value.Int (pos 3) ∷ []
 
 -- Exec, four of Eval, Enter
-sum_begins : run 6 sum_world (begins sum_body) ≡ Some (record { world = sum_world; frames = entry 1 adds addends ∷ frame behind_sum [] [] ∷ []; acts = []; left = [] })
+sum_begins : run 6 sum_world (begins (added ∷ [])) ≡ Some (record { world = sum_world; frames = entry 1 adds addends ∷ frame behind_sum [] [] ∷ []; acts = []; left = [] })
 sum_begins = simp (s.outs-PutLine, e.outs-Op, e.outs-Call, e.outs-Literal) refl
 
 -- Exec return, three of Eval, Apply, Give
@@ -135,30 +87,21 @@ sum_returns = simp (s.outs-Return, e.outs-Binary, e.outs-Name, out-roll-Named) r
 sum_ends : run 3 sum_world (frame behind_sum [] (value.Int (pos 5) ∷ []) ∷ []) ≡ over sum_world (act.Put (codes "5") ∷ act.Ended value.Nil ∷ [])
 sum_ends = simp decimal_five refl
 
-pub sum_steps : run 15 sum_world (begins sum_body) ≡ over sum_world (act.Put (codes "5") ∷ act.Ended value.Nil ∷ [])
+pub sum_steps : run 15 sum_world (begins (added ∷ [])) ≡ over sum_world (act.Put (codes "5") ∷ act.Ended value.Nil ∷ [])
 sum_steps =
-    run_on 6 9 _ sum_world (begins sum_body) _ sum_begins
+    run_on 6 9 _ sum_world (begins (added ∷ [])) _ sum_begins
     (run_on 6 3 _ sum_world (entry 1 adds addends ∷ frame behind_sum [] [] ∷ []) _ sum_returns sum_ends)
 
 -- ---- `oops() except when bad: put_line("bad") end` and `oops()`
 
-abbrev signals_bad : Routine
-signals_bad = routine (codes "oops") [] None (s.Signal (codes "bad") None 2 ∷ [])
-
-abbrev oops : Stmt
-oops = s.Call (call (codes "oops") []) 2
-
-abbrev signals_body : List Stmt
-signals_body = s.Except oops (says (codes "bad")) ∷ oops ∷ []
-
 abbrev signals_world : World
-signals_world = world signals_body (signals_bad ∷ [])
+signals_world = world two_signals (signals_bad ∷ [])
 
 abbrev unhandled : Act
 unhandled = act.Died (record { name = codes "failure"; value = Some (value.Str (codes "unhandled exception: bad")) })
 
 -- Exec, Exec, Eval, Enter, Exec signal
-signals_lands : run 5 signals_world (begins signals_body) ≡
+signals_lands : run 5 signals_world (begins two_signals) ≡
     Some (record { world = signals_world; frames = frame (i.Exec (text (codes "bad")) ∷ i.Exec oops ∷ i.Fall ∷ []) [] [] ∷ []; acts = []; left = [] })
 signals_lands = simp (s.outs-Except, s.outs-Call, s.outs-Signal, e.outs-Call, out-roll-Handlers, out-roll-When) refl
 
@@ -166,34 +109,16 @@ signals_lands = simp (s.outs-Except, s.outs-Call, s.outs-Signal, e.outs-Call, ou
 signals_dies : run 4 signals_world (frame (i.Exec oops ∷ i.Fall ∷ []) [] [] ∷ []) ≡ over signals_world (unhandled ∷ [])
 signals_dies = simp (s.outs-Call, s.outs-Signal, e.outs-Call) refl
 
-pub signals_steps : run 12 signals_world (begins signals_body) ≡ over signals_world (act.Put (codes "bad") ∷ unhandled ∷ [])
+pub signals_steps : run 12 signals_world (begins two_signals) ≡ over signals_world (act.Put (codes "bad") ∷ unhandled ∷ [])
 signals_steps =
-    run_on 5 7 _ signals_world (begins signals_body) _ signals_lands
+    run_on 5 7 _ signals_world (begins two_signals) _ signals_lands
     (run_on 3 4 _ signals_world (frame (i.Exec (text (codes "bad")) ∷ i.Exec oops ∷ i.Fall ∷ []) [] [] ∷ []) _ (text_steps signals_world (codes "bad") (i.Exec oops ∷ i.Fall ∷ []) [])
     signals_dies)
 
 -- ---- an array is changed, and its elements are printed
 
-abbrev ints : Shape
-ints = shape.Arr shape.Int
-
-abbrev declared : Stmt
-declared = s.Declare (codes "a") ints (Some (e.Array ints (int 5 ∷ int 6 ∷ []) 2 m.Unknown)) 2
-
-abbrev changed : Stmt
-changed = s.Assign (target.Index (local (codes "a")) (int 2) 2 (m.Op op.ArrStore)) (int 7) 2
-
-abbrev shown_element : List Stmt
-shown_element = shown (local (codes "i")) ∷ []
-
-abbrev all_shown : Stmt
-all_shown = s.For (codes "i") shape.Int (iter.Elements ints (local (codes "a")) 2) shown_element 2
-
-abbrev elements_body : List Stmt
-elements_body = declared ∷ changed ∷ all_shown ∷ []
-
 abbrev elements_world : World
-elements_world = world elements_body []
+elements_world = world array_loop []
 
 abbrev two : ℕ → ℕ → Obj
 two a b = obj.Arr (pos 1) (value.Int (pos a) ∷ value.Int (pos b) ∷ [])
@@ -208,7 +133,7 @@ abbrev later : List Item
 later = i.Exec changed ∷ i.Exec all_shown ∷ i.Fall ∷ []
 
 -- Exec, three of Eval, MakeArray, Assign
-declared_steps : run 6 elements_world (begins elements_body) ≡ did (holding elements_world (two 5 6)) [] later (a ∷ [])
+declared_steps : run 6 elements_world (begins array_loop) ≡ did (holding elements_world (two 5 6)) [] later (a ∷ [])
 declared_steps = simp (s.outs-Declare, e.outs-Array, e.outs-Literal) refl
 
 -- Exec, three of Eval, Apply, Discard
@@ -219,7 +144,7 @@ abbrev held : World
 held = holding elements_world (two 5 7)
 
 abbrev round : ℕ → List Item
-round n = i.Each (codes "i") shape.Int shown_element (at 0) (pos n) ∷ i.Fall ∷ []
+round n = i.Each (codes "i") shape.Int (shown (local (codes "i")) ∷ []) (at 0) (pos n) ∷ i.Fall ∷ []
 
 -- Exec, Eval, ForEach, Each
 first_steps : run 4 held (frame (i.Exec all_shown ∷ i.Fall ∷ []) (a ∷ []) [] ∷ []) ≡ did held [] (i.Exec (shown (local (codes "i"))) ∷ round 2) (shows 5)
@@ -246,18 +171,12 @@ rounds_steps =
     (run_on 1 7 _ held (frame (round 2) (shows 5) [] ∷ []) _ second_steps
     (run_on 5 2 _ held (frame (i.Exec (shown (local (codes "i"))) ∷ round 3) (shows 7) [] ∷ []) _ seven_steps last_steps)))
 
-pub elements_steps : run 29 elements_world (begins elements_body) ≡ over held (act.Put (codes "5") ∷ act.Put (codes "7") ∷ act.Ended value.Nil ∷ [])
+pub elements_steps : run 29 elements_world (begins array_loop) ≡ over held (act.Put (codes "5") ∷ act.Put (codes "7") ∷ act.Ended value.Nil ∷ [])
 elements_steps =
-    run_on 6 23 _ elements_world (begins elements_body) _ declared_steps
+    run_on 6 23 _ elements_world (begins array_loop) _ declared_steps
     (run_on 6 17 _ (holding elements_world (two 5 6)) (frame later (a ∷ []) [] ∷ []) _ changed_steps rounds_steps)
 
 -- ---- `l: lock := lock$create()` and `region l do put_line("in") end`
-
-abbrev lock : Stmt
-lock = s.Declare (codes "l") shape.Lock (Some (e.Op shape.Lock (codes "create") [] 2 (m.Op op.LockCreate))) 2
-
-abbrev locked : Stmt
-locked = s.Region (local (codes "l")) (text (codes "in") ∷ []) 2
 
 abbrev region_body : List Stmt
 region_body = lock ∷ locked ∷ []

@@ -4,7 +4,6 @@ use Rattle.std.proofs.Common.{◌≡◌, ℕ, zero, suc, ◌+◌, ◌*◌, ◌�
 use Rattle.std.proofs.lemmas.Bool.{lt-ltb, ltb-true, le-leb}
 use Rattle.std.proofs.lemmas.List.{length-append}
 use Rattle.std.proofs.lemmas.List.Sums.{fold-append}
-use Rattle.clu_tree.specs.declared.value.Addr.{Addr}
 use Rattle.clu_tree.specs.declared.value.Value.TheVariants as value
 use Rattle.clu_tree.specs.declared.shape.Shape.{Shape}
 use Rattle.clu_tree.specs.declared.shape.Shape.TheVariants as shape
@@ -30,6 +29,7 @@ use Rattle.machine_rules.specs.declared.frame.Var.{Var}
 use Rattle.machine_rules.specs.declared.frame.Frame.{Frame}
 use Rattle.machine_rules.specs.declared.act.Act.TheVariants as act
 use Rattle.machine_rules.specs.Frames.{declare}
+use Rattle.machine_rules.specs.Examples.{at, int, local}
 use Rattle.machine_rules.specs.Row.{World, bare_world, entry, start}
 use Rattle.machine_rules.specs.Runs.{Ran, run}
 use Rattle.machine_rules.proofs.Runs.{run_on}
@@ -41,19 +41,13 @@ by_test false h k = k refl
 not_below : (a b : ℕ) → b ≤ a → ltb a b ≡ false
 not_below a b l = by_test (ltb a b) (λ e. absurd (omega (arith, ltb-true a b e))) (λ e. e)
 
-abbrev int : ℕ → Expr
-int n = e.Literal (value.Int (pos n)) 2
-
-abbrev local : List ℕ → Expr
-local x = e.Name x 2 m.Local
-
 abbrev counts : ℕ → Var
 counts n = record { name = codes "i"; shape = shape.Int; value = Some (value.Int (pos n)) }
 
 -- ---- `for i: int in int$from_to(1, n) do end` and `return ("x")`
 
 abbrev spin_body : ℕ → List Stmt
-spin_body n = s.For (codes "i") shape.Int (iter.FromTo (int 1) (int n) 2) [] 2 ∷ s.Return (Some (e.Literal (value.Str (codes "x")) 3)) 3 ∷ []
+spin_body n = s.For (codes "i") shape.Int (iter.FromTo (int (pos 1)) (int (pos n)) 2) [] 2 ∷ s.Return (Some (e.Literal (value.Str (codes "x")) 3)) 3 ∷ []
 
 abbrev spin : ℕ → Routine
 spin n = record { name = codes "print"; params = roll-Named (record { name = codes "b"; shape = shape.Cvt }) ∷ []; result = Some shape.Str; signals = []; body = spin_body n; line = 1 }
@@ -153,10 +147,10 @@ shows_it = roll-Handlers (record {
 })
 
 abbrev asks : Stmt
-asks = s.Except (s.Remote None (remote.Once (codes "taker") (local (codes "n") ∷ []) (int 1) 2 (m.Routine 2)) 2 m.Unknown) shows_it
+asks = s.Except (s.Remote None (remote.Once (codes "taker") (local (codes "n") ∷ []) (int (pos 1)) 2 (m.Routine 2)) 2 m.Unknown) shows_it
 
 abbrev counted : Stmt
-counted = s.For (codes "i") shape.Int (iter.FromTo (int 1) (local (codes "k")) 2) (grows ∷ []) 2
+counted = s.For (codes "i") shape.Int (iter.FromTo (int (pos 1)) (local (codes "k")) 2) (grows ∷ []) 2
 
 abbrev begins : Stmt
 begins = s.Declare (codes "n") nat (Some (e.Op nat (codes "zero") [] 2 (m.Routine 0))) 2
@@ -173,9 +167,6 @@ holding store = record {
   vars = [];
   time = 0;
 }
-
-abbrev at : ℕ → Addr
-at a = record { 0 = a }
 
 abbrev k_var : ℕ → Var
 k_var k = record { name = codes "k"; shape = shape.Int; value = Some (value.Int (pos k)) }

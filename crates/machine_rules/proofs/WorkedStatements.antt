@@ -1,13 +1,12 @@
 -- The steps of each kind of statement, computed before any work that stands behind it.
-use Rattle.std.proofs.Common.{◌≡◌, ℕ, pos, Bool, true, false, List, [], ◌∷◌, codes, Option, Some, None, refl, arith}
+use Rattle.std.proofs.Common.{◌≡◌, ℕ, pos, true, false, List, [], ◌∷◌, codes, Option, Some, None, refl, arith}
 use Rattle.std.specs.Fmt.{decimal}
 use Rattle.std.proofs.lemmas.Fmt.{decimal-digits_of}
 use Rattle.clu_tree.specs.declared.value.Addr.{Addr}
 use Rattle.clu_tree.specs.declared.value.Value.{Value}
 use Rattle.clu_tree.specs.declared.value.Value.TheVariants as value
-use Rattle.clu_tree.specs.declared.shape.Shape.{Shape}
 use Rattle.clu_tree.specs.declared.shape.Shape.TheVariants as shape
-use Rattle.clu_tree.specs.declared.shape.Named.{Named, roll-Named, out-roll-Named}
+use Rattle.clu_tree.specs.declared.shape.Named.{roll-Named, out-roll-Named}
 use Rattle.clu_tree.specs.declared.op.Op.TheVariants as op
 use Rattle.clu_tree.specs.declared.tree.Meant.TheVariants as m
 use Rattle.clu_tree.specs.declared.tree.Infix.TheVariants as fix
@@ -31,6 +30,7 @@ use Rattle.machine_rules.specs.declared.frame.Var.{Var}
 use Rattle.machine_rules.specs.declared.frame.Frame.{Frame}
 use Rattle.machine_rules.specs.declared.act.Act.{Act}
 use Rattle.machine_rules.specs.declared.act.Act.TheVariants as act
+use Rattle.machine_rules.specs.Examples.{adds, at, int, int_named, local, program, routine, signals_bad, text, truth, var, when}
 use Rattle.machine_rules.specs.Row.{World, bare_world, entry, start}
 use Rattle.machine_rules.specs.Runs.{Ran, run}
 use Rattle.machine_rules.proofs.Runs.{run_on}
@@ -41,12 +41,9 @@ ruleset stmts = (s.outs-Declare, s.outs-Assign, s.outs-Remote, s.outs-Call, s.ou
 
 -- ---- the world and the frames of these examples
 
-abbrev routine : List ℕ → List Named → Option Shape → List Stmt → Routine
-routine name params result body = record { name = name; params = params; result = result; signals = []; body = body; line = 1 }
-
 -- a program whose routine 0 is p, and whose others are these
 abbrev world : List Routine → World
-world others = bare_world (record { equates = []; node_vars = []; routines = routine (codes "p") [] None [] ∷ others; clusters = []; nodes = [] }) 7
+world others = bare_world (program [] others) 7
 
 abbrev frame : List Item → List Var → Frame
 frame work vars = record { routine = 0; line = 2; vars = vars; work = work; values = [] }
@@ -55,30 +52,12 @@ frame work vars = record { routine = 0; line = 2; vars = vars; work = work; valu
 abbrev did : World → List Act → List Addr → List Item → List Var → Option Ran
 did w acts left work vars = Some (record { world = w; frames = frame work vars ∷ []; acts = acts; left = left })
 
-abbrev int : ℕ → Expr
-int n = e.Literal (value.Int (pos n)) 2
-
-abbrev local : List ℕ → Expr
-local x = e.Name x 2 m.Local
-
-abbrev truth : Bool → Expr
-truth b = e.Literal (value.Bool b) 2
-
-abbrev text : List ℕ → Stmt
-text t = s.PutLine (e.Literal (value.Str t) 2) 2
-
 -- `put_line(t)`: Exec, Eval, Put
 text_steps : (w : World) (t : List ℕ) (work : List Item) → run 3 w (frame (i.Exec (text t) ∷ work) [] ∷ []) ≡ did w (act.Put t ∷ []) [] work []
 text_steps w t work = simp (s.outs-PutLine, e.outs-Literal) refl
 
 decimal_five : decimal 5 ≡ codes "5"
 decimal_five = decimal-digits_of 5 (omega arith) (omega arith)
-
-abbrev at : ℕ → Addr
-at n = record { 0 = n }
-
-abbrev var : List ℕ → Shape → Value → Var
-var x t v = record { name = x; shape = t; value = Some v }
 
 -- ---- calls
 
@@ -91,7 +70,7 @@ call_steps : (work : List Item) → run 5 (world (routine (codes "q") [] None []
 call_steps work = simp (exprs, stmts) refl
 
 abbrev five : Routine
-five = routine (codes "five") [] (Some shape.Int) (s.Return (Some (int 5)) 2 ∷ [])
+five = routine (codes "five") [] (Some shape.Int) (s.Return (Some (int (pos 5))) 2 ∷ [])
 
 -- `x: int := five()`: Exec, Eval, Enter, Exec return, Eval, Return, Bind
 declare_steps : (work : List Item) → run 7 (world (five ∷ [])) (frame (i.Exec (s.Declare (codes "x") shape.Int (Some (e.Call (codes "five") [] 2 (m.Routine 1))) 2) ∷ work) [] ∷ []) ≡
@@ -105,15 +84,9 @@ declare_unset_steps work = simp s.outs-Declare refl
 
 -- ---- exceptions
 
-abbrev when : List ℕ → List Stmt → Handlers
-when n body = roll-Handlers (record { whens = roll-When (record { names = n ∷ []; variable = None; body = body }) ∷ []; others = None })
-
-abbrev oops : Routine
-oops = routine (codes "oops") [] None (s.Signal (codes "bad") None 2 ∷ [])
-
 -- `oops() except when bad: put_line("x") end`: Exec, Exec, Eval, Enter, Exec signal, and the handler's three
-handler_steps : (work : List Item) → run 8 (world (oops ∷ [])) (frame (i.Exec (s.Except (call (codes "oops") 1) (when (codes "bad") (text (codes "x") ∷ []))) ∷ work) [] ∷ []) ≡
-    did (world (oops ∷ [])) (act.Put (codes "x") ∷ []) [] work []
+handler_steps : (work : List Item) → run 8 (world (signals_bad ∷ [])) (frame (i.Exec (s.Except (call (codes "oops") 1) (when (codes "bad") (text (codes "x") ∷ []))) ∷ work) [] ∷ []) ≡
+    did (world (signals_bad ∷ [])) (act.Put (codes "x") ∷ []) [] work []
 handler_steps work = simp (exprs, stmts) refl
 
 -- the exception's value is the handler's variable
@@ -154,7 +127,7 @@ abbrev handles_bad : Handlers
 handles_bad = when (codes "bad") (text (codes "x") ∷ [])
 
 abbrev two : World
-two = world (oops ∷ passing ∷ [])
+two = world (signals_bad ∷ passing ∷ [])
 
 -- Exec, Exec, Eval, Enter
 passing_begins : (work : List Item) → run 4 two (frame (i.Exec (s.Except (call (codes "passing") 2) handles_bad) ∷ work) [] ∷ []) ≡
@@ -174,9 +147,9 @@ resignal_steps work =
     (text_steps two (codes "x") work))
 
 -- an exception that nothing takes leaves a frame as failure: Exec, Eval, Enter, Exec signal
-unhandled_steps : (work : List Item) → run 4 (world (oops ∷ [])) (frame (i.Exec (call (codes "oops") 1) ∷ []) [] ∷ []) ≡
+unhandled_steps : (work : List Item) → run 4 (world (signals_bad ∷ [])) (frame (i.Exec (call (codes "oops") 1) ∷ []) [] ∷ []) ≡
     Some (record {
-      world = world (oops ∷ []);
+      world = world (signals_bad ∷ []);
       frames = [];
       acts = act.Died (record { name = codes "failure"; value = Some (value.Str (codes "unhandled exception: bad")) }) ∷ [];
       left = [];
@@ -241,7 +214,7 @@ signal_steps : (work : List Item) →
 signal_steps work = simp (exprs, stmts) refl
 
 abbrev waits : Expr
-waits = e.Op shape.Semaphore (codes "wait_for") (e.Name (codes "s") 2 (m.NodeVar 0) ∷ int 50 ∷ []) 2 (m.Op op.SemWaitFor)
+waits = e.Op shape.Semaphore (codes "wait_for") (e.Name (codes "s") 2 (m.NodeVar 0) ∷ int (pos 50) ∷ []) 2 (m.Op op.SemWaitFor)
 
 -- `if semaphore$wait_for(s, 50) then put_line("got") else put_line("late") end`: five steps up to the wait
 wait_steps : (work : List Item) →
@@ -250,7 +223,7 @@ wait_steps : (work : List Item) →
 wait_steps work = simp (exprs, stmts) refl
 
 -- `sleep(20)`: Exec, Eval, Sleep
-sleep_steps : (w : World) (work : List Item) → run 3 w (frame (i.Exec (s.Sleep (int 20) 2) ∷ work) [] ∷ []) ≡ did w (act.Sleep (pos 20) ∷ []) [] work []
+sleep_steps : (w : World) (work : List Item) → run 3 w (frame (i.Exec (s.Sleep (int (pos 20)) 2) ∷ work) [] ∷ []) ≡ did w (act.Sleep (pos 20) ∷ []) [] work []
 sleep_steps w work = simp (s.outs-Sleep, e.outs-Literal) refl
 
 -- p with this value, which the node gave
@@ -272,49 +245,37 @@ late_steps = simp (exprs, stmts) refl
 
 -- ---- processes and remote calls
 
-abbrev one_param : List Named
-one_param = roll-Named (record { name = codes "n"; shape = shape.Int }) ∷ []
-
 -- `fork q(1)`: Exec, Eval, Spawn
 fork_steps : (work : List Item) →
-    run 3 (world (routine (codes "q") one_param None [] ∷ [])) (frame (i.Exec (s.Fork (codes "q") (int 1 ∷ []) 2 (m.Routine 1)) ∷ work) [] ∷ []) ≡
-    did (world (routine (codes "q") one_param None [] ∷ [])) (act.Fork 1 (value.Int (pos 1) ∷ []) ∷ []) [] work []
+    run 3 (world (routine (codes "q") (int_named (codes "n") ∷ []) None [] ∷ [])) (frame (i.Exec (s.Fork (codes "q") (int (pos 1) ∷ []) 2 (m.Routine 1)) ∷ work) [] ∷ []) ≡
+    did (world (routine (codes "q") (int_named (codes "n") ∷ []) None [] ∷ [])) (act.Fork 1 (value.Int (pos 1) ∷ []) ∷ []) [] work []
 fork_steps work = simp (exprs, stmts) refl
 
-abbrev two_params : List Named
-two_params = roll-Named (record { name = codes "a"; shape = shape.Int }) ∷ roll-Named (record { name = codes "b"; shape = shape.Int }) ∷ []
-
-abbrev sum : Expr
-sum = e.Binary (local (codes "a")) fix.Add (local (codes "b")) 2 (m.Op op.IntAdd)
-
-abbrev add : Routine
-add = routine (codes "add") two_params (Some shape.Int) (s.Return (Some sum) 2 ∷ [])
-
 abbrev asked : Stmt
-asked = s.Remote (Some (codes "x")) (remote.Once (codes "add") (int 2 ∷ int 3 ∷ []) (int 2) 2 (m.Routine 1)) 2 m.Local
+asked = s.Remote (Some (codes "x")) (remote.Once (codes "add") (int (pos 2) ∷ int (pos 3) ∷ []) (int (pos 2)) 2 (m.Routine 1)) 2 m.Local
 
 -- `x: int` and `x := once add(2, 3) at 2`: Exec, Exec, three of Eval, Remote
 once_steps : (work : List Item) →
-    run 6 (world (add ∷ [])) (frame (i.Exec (s.Declare (codes "x") shape.Int None 2) ∷ i.Exec asked ∷ work) [] ∷ []) ≡
-    did (world (add ∷ [])) (act.Once (record { routine = 1; to = pos 2; args = value.Int (pos 2) ∷ value.Int (pos 3) ∷ [] }) ∷ []) []
+    run 6 (world (adds ∷ [])) (frame (i.Exec (s.Declare (codes "x") shape.Int None 2) ∷ i.Exec asked ∷ work) [] ∷ []) ≡
+    did (world (adds ∷ [])) (act.Once (record { routine = 1; to = pos 2; args = value.Int (pos 2) ∷ value.Int (pos 3) ∷ [] }) ∷ []) []
     (i.Assign (codes "x") ∷ work) (record { name = codes "x"; shape = shape.Int; value = None } ∷ [])
 once_steps work = simp (exprs, stmts) refl
 
 -- its body: Exec return, Eval, two of Eval, Apply, Return
-body_steps : run 6 (world (add ∷ [])) (start 1 add (value.Int (pos 2) ∷ value.Int (pos 3) ∷ [])) ≡
-    Some (record { world = world (add ∷ []); frames = []; acts = act.Ended (value.Int (pos 5)) ∷ []; left = [] })
+body_steps : run 6 (world (adds ∷ [])) (start 1 adds (value.Int (pos 2) ∷ value.Int (pos 3) ∷ [])) ≡
+    Some (record { world = world (adds ∷ []); frames = []; acts = act.Ended (value.Int (pos 5)) ∷ []; left = [] })
 body_steps = simp (exprs, stmts) refl
 
 -- and, with its answer, Set, the five of `put_line(int$unparse(x))`, Fall
-answered_steps : run 7 (world (add ∷ []))
+answered_steps : run 7 (world (adds ∷ []))
     (record { routine = 0; line = 2; vars = record { name = codes "x"; shape = shape.Int; value = None } ∷ []; work = i.Assign (codes "x") ∷ i.Exec (s.PutLine (e.Op shape.Int (codes "unparse") (local (codes "x") ∷ []) 2 (m.Op op.IntUnparse)) 2) ∷ i.Fall ∷ []; values = value.Int (pos 5) ∷ [] } ∷ []) ≡
-    Some (record { world = world (add ∷ []); frames = []; acts = act.Put (codes "5") ∷ act.Ended value.Nil ∷ []; left = [] })
+    Some (record { world = world (adds ∷ []); frames = []; acts = act.Put (codes "5") ∷ act.Ended value.Nil ∷ []; left = [] })
 answered_steps = simp (s.outs-PutLine, e.outs-Op, e.outs-Name, decimal_five) refl
 
 -- `maybe add(2, 3) at 2 within 100`: Exec, four of Eval, Remote
 maybe_steps : (work : List Item) →
-    run 6 (world (add ∷ [])) (frame (i.Exec (s.Remote None (remote.Maybe (codes "add") (int 2 ∷ int 3 ∷ []) (int 2) (int 100) 2 (m.Routine 1)) 2 m.Unknown) ∷ work) [] ∷ []) ≡
-    did (world (add ∷ [])) (act.Maybe (record { routine = 1; to = pos 2; args = value.Int (pos 2) ∷ value.Int (pos 3) ∷ [] }) (pos 100) ∷ []) [] (i.Discard ∷ work) []
+    run 6 (world (adds ∷ [])) (frame (i.Exec (s.Remote None (remote.Maybe (codes "add") (int (pos 2) ∷ int (pos 3) ∷ []) (int (pos 2)) (int (pos 100)) 2 (m.Routine 1)) 2 m.Unknown) ∷ work) [] ∷ []) ≡
+    did (world (adds ∷ [])) (act.Maybe (record { routine = 1; to = pos 2; args = value.Int (pos 2) ∷ value.Int (pos 3) ∷ [] }) (pos 100) ∷ []) [] (i.Discard ∷ work) []
 maybe_steps work = simp (exprs, stmts) refl
 
 -- ---- choices

@@ -1,14 +1,13 @@
 use Rattle.std.proofs.Common.{refl}
 use Rattle.clu_tree.specs.declared.tree.Stmt.TheViews as s
-use Rattle.eval_frames.proofs.Rows.{here}
-use Rattle.eval_items.proofs.Rows.{by_row}
+use Rattle.eval_frames.proofs.Rows.{by_row, here}
 use Rattle.eval_items.proofs.stmts.begins.Goals as goal
 
 pub returns-in-Declare : goal.returns-in-Declare
 returns-in-Declare g c = here g.w _ _ _ _ c.declares.ensures (rw (c.in-Declare.is, s.outs-Declare) refl)
 
 pub returns-in-Assign : goal.returns-in-Assign
-returns-in-Assign g c = by_row g.w _ _ _ _ c.assigns.ensures (rw (c.in-Assign.is, s.outs-Assign) refl)
+returns-in-Assign g c = by_row g.w.store _ _ _ _ c.assigns.ensures (rw (c.in-Assign.is, s.outs-Assign) refl)
 
 pub returns-in-Call : goal.returns-in-Call
 returns-in-Call g c = here g.w _ _ _ _ c.evals_then.ensures (rw (c.in-Call.is, s.outs-Call) refl)
@@ -20,13 +19,13 @@ pub returns-in-Sleep : goal.returns-in-Sleep
 returns-in-Sleep g c = here g.w _ _ _ _ c.evals_then-in-Sleep.ensures (rw (c.in-Sleep.is, s.outs-Sleep) refl)
 
 pub returns-in-Fork : goal.returns-in-Fork
-returns-in-Fork g c = by_row g.w _ _ _ _ c.operands.ensures (rw (c.in-Fork.is, s.outs-Fork, c.spawning.ensures) refl)
+returns-in-Fork g c = by_row g.w.store _ _ _ _ c.operands.ensures (rw (c.in-Fork.is, s.outs-Fork, c.spawning.ensures) refl)
 
 pub returns-in-Return : goal.returns-in-Return
 returns-in-Return g c = here g.w _ _ _ _ c.returns.ensures (rw (c.in-Return.is, s.outs-Return) refl)
 
 pub returns-in-Signal : goal.returns-in-Signal
-returns-in-Signal g c = by_row g.w _ _ _ _ c.signals.ensures (rw (c.in-Signal.is, s.outs-Signal) refl)
+returns-in-Signal g c = by_row g.w.store _ _ _ _ c.signals.ensures (rw (c.in-Signal.is, s.outs-Signal) refl)
 
 pub returns-in-If : goal.returns-in-If
 returns-in-If g c = here g.w _ _ _ _ c.evals_then-in-If.ensures (rw (c.in-If.is, s.outs-If) refl)

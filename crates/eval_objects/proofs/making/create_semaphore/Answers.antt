@@ -1,5 +1,6 @@
 use Rattle.std.proofs.Common.{rules}
-use Rattle.eval_objects.proofs.Rows.{by_row, by_row_in, counted}
+use Rattle.eval_frames.proofs.Rows.{by_row}
+use Rattle.eval_objects.proofs.Rows.{by_row_in, counted}
 use Rattle.eval_objects.proofs.making.create_semaphore.Goals as goal
 
 pub returns-in-Some-clause-row : goal.returns-in-Some-clause-row

@@ -1,5 +1,5 @@
 use Rattle.std.proofs.Common.{rules}
-use Rattle.eval_objects.proofs.Rows.{by_row}
+use Rattle.eval_frames.proofs.Rows.{by_row}
 use Rattle.eval_objects.proofs.tags.tagged.Goals as goal
 
 pub returns : goal.returns

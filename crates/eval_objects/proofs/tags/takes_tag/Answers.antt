@@ -1,6 +1,6 @@
 use Rattle.std.proofs.Common.{rules}
-use Rattle.eval_frames.proofs.Rows.{here}
-use Rattle.eval_objects.proofs.Rows.{by_row, takes_chosen}
+use Rattle.eval_frames.proofs.Rows.{by_row, here}
+use Rattle.eval_objects.proofs.Rows.{takes_chosen}
 use Rattle.eval_objects.proofs.tags.takes_tag.Goals as goal
 
 pub returns-in-Some : goal.returns-in-Some
