@@ -94,11 +94,13 @@ impl Process {
         give_value(&mut self.frames, value)
     }
 
-    /// Raises an exception in a process that waited, and answers what a step answers.
+    /// Raises an exception in a process that waited, and answers what a step answers. No object is changed by it, and
+    /// `w` may be any world in which the process has a row for it.
     pub fn raise(&mut self, alloc: Global, program: &Program, sig: Sig) -> Result<StepEnd, Memory>
+        ghost w: { World }
         requires goes_on { self.old ≢ [] }
-        requires row { IsSome (rule.raise (rule.bare_world program.now 0) sig self.old) }
-        ensures { IfOk result (λ end. rule.raise (rule.bare_world program.now 0) sig self.old ≡ took end.left end.act [] self.new) }
+        requires row { IsSome (rule.raise w sig self.old) }
+        ensures { IfOk result (λ end. rule.raise w sig self.old ≡ took end.left end.act w.store self.new) }
     {
         raise_in(alloc, program, &mut self.frames, sig)
     }
@@ -164,9 +166,8 @@ fn raise_in(
     sig: Sig,
 ) -> Result<StepEnd, Memory>
     ghost w: { World }
-    requires none { w.store ≡ [] }
     requires row { IsSome (rule.raise w sig frames.old) }
-    ensures { IfOk result (λ end. rule.raise w sig frames.old ≡ took end.left end.act [] frames.new) }
+    ensures { IfOk result (λ end. rule.raise w sig frames.old ≡ took end.left end.act w.store frames.new) }
 {
     let _program = program;
     unwind(alloc, frames, Items::new(alloc), sig)
