@@ -1,0 +1,252 @@
+-- Trees of further programs of the tests. Each line of a tree is 2.
+use Rattle.std.specs.Prelude.{ℕ, ℤ, pos, true, false, List, [], ◌∷◌, codes, Option, Some, None}
+use Rattle.clu_tree.specs.declared.value.Value.{Value}
+use Rattle.clu_tree.specs.declared.value.Value.TheVariants as value
+use Rattle.clu_tree.specs.declared.value.Sig.{Sig}
+use Rattle.clu_tree.specs.declared.shape.Shape.{Shape}
+use Rattle.clu_tree.specs.declared.shape.Shape.TheVariants as shape
+use Rattle.clu_tree.specs.declared.shape.Named.{Named, roll-Named}
+use Rattle.clu_tree.specs.declared.op.Op.{Op}
+use Rattle.clu_tree.specs.declared.op.Op.TheVariants as op
+use Rattle.clu_tree.specs.declared.tree.Meant.TheVariants as m
+use Rattle.clu_tree.specs.declared.tree.Infix.{Infix}
+use Rattle.clu_tree.specs.declared.tree.Infix.TheVariants as fix
+use Rattle.clu_tree.specs.declared.tree.Iter.TheVariants as iter
+use Rattle.clu_tree.specs.declared.tree.Target.TheVariants as target
+use Rattle.clu_tree.specs.declared.tree.Remote.{Remote}
+use Rattle.clu_tree.specs.declared.tree.Remote.TheVariants as remote
+use Rattle.clu_tree.specs.declared.tree.Expr.{Expr}
+use Rattle.clu_tree.specs.declared.tree.Expr.TheVariants as e
+use Rattle.clu_tree.specs.declared.tree.FieldInit.{FieldInit, roll-FieldInit}
+use Rattle.clu_tree.specs.declared.tree.Stmt.{Stmt}
+use Rattle.clu_tree.specs.declared.tree.Stmt.TheVariants as s
+use Rattle.clu_tree.specs.declared.tree.Arm.{Arm, roll-Arm}
+use Rattle.clu_tree.specs.declared.tree.TagArm.{TagArm, roll-TagArm}
+use Rattle.clu_tree.specs.declared.tree.Handlers.{Handlers, roll-Handlers}
+use Rattle.clu_tree.specs.declared.tree.When.{roll-When}
+use Rattle.clu_tree.specs.declared.program.Routine.{Routine}
+use Rattle.machine_rules.specs.Examples.{both, call, int, int_named, ints, local, lock, oops, over_array, routine, says, shown, text, truth}
+
+-- ---- parts
+
+abbrev pub binary : Expr → Infix → Expr → Op → Expr
+binary a o b does = e.Binary a o b 2 (m.Op does)
+
+abbrev pub operation : Shape → List ℕ → List Expr → Op → Expr
+operation t name args does = e.Op t name args 2 (m.Op does)
+
+abbrev pub sets : List ℕ → Expr → Stmt
+sets x v = s.Assign (target.Name x 2 m.Local) v 2
+
+abbrev pub declares : List ℕ → Shape → Expr → Stmt
+declares x t v = s.Declare x t (Some v) 2
+
+abbrev pub unset : List ℕ → Shape → Stmt
+unset x t = s.Declare x t None 2
+
+-- ---- `n: int := 0`, `while n < 2 do n := n + 1 end`, and a choice of three by `n`
+
+abbrev pub n : Expr
+n = local (codes "n")
+
+abbrev pub counted : Stmt
+counted = s.While (binary n fix.Lt (int (pos 2)) op.IntLt) (sets (codes "n") (binary n fix.Add (int (pos 1)) op.IntAdd) ∷ []) 2
+
+abbrev pub is_two : Arm
+is_two = roll-Arm (record { test = binary n fix.Equal (int (pos 2)) op.IntEqual; body = text (codes "two") ∷ [] })
+
+abbrev pub chosen : Stmt
+chosen = s.If (binary n fix.Equal (int (pos 1)) op.IntEqual) (text (codes "one") ∷ []) (is_two ∷ []) (Some (text (codes "more") ∷ [])) 2
+
+abbrev pub counting : List Stmt
+counting = declares (codes "n") shape.Int (int (pos 0)) ∷ counted ∷ chosen ∷ []
+
+-- ---- `b: bool`, and a choice that never looks at it
+
+abbrev pub unseen : Expr
+unseen = local (codes "b")
+
+abbrev pub either : Arm
+either = roll-Arm (record { test = e.Binary (truth true) fix.Cor unseen 2 m.Unknown; body = s.Begin (text (codes "cor") ∷ []) 2 ∷ [] })
+
+abbrev pub choosing : List Stmt
+choosing = unset (codes "b") shape.Bool ∷ s.If (e.Binary (truth false) fix.Cand unseen 2 m.Unknown) (text (codes "cand") ∷ []) (either ∷ []) None 2 ∷ []
+
+-- ---- `for i: int in int$from_to(1, 2) do put_line(int$unparse(i)) end` and `put_line(int$unparse(now()))`
+
+abbrev pub numbers : List Stmt
+numbers = s.For (codes "i") shape.Int (iter.FromTo (int (pos 1)) (int (pos 2)) 2) (shown (local (codes "i")) ∷ []) 2 ∷ shown (e.Now 2) ∷ []
+
+-- ---- a loop over an array that loses its last element in each turn
+
+abbrev pub shrunk : Stmt
+shrunk = s.Call (operation ints (codes "remh") (local (codes "a") ∷ []) op.ArrRemh) 2
+
+abbrev pub shrinking : List Stmt
+shrinking = both ∷ over_array (shrunk ∷ shown (local (codes "i")) ∷ []) ∷ []
+
+-- ---- `r: pair := pair${x: 1, y: 2}`, `r.y := 5`, `put_line(int$unparse(up(down(r)).x + r.y))`
+
+abbrev pub pair : Shape
+pair = shape.Name (codes "pair")
+
+abbrev pub r : Expr
+r = local (codes "r")
+
+abbrev pub init : List ℕ → Expr → FieldInit
+init x v = roll-FieldInit (record { name = x; value = v })
+
+abbrev pub made : Stmt
+made = declares (codes "r") pair (e.Record pair (init (codes "x") (int (pos 1)) ∷ init (codes "y") (int (pos 2)) ∷ []) 2 m.Unknown)
+
+abbrev pub field_set : Stmt
+field_set = s.Assign (target.Field r (codes "y") 2 (m.Field 1)) (int (pos 5)) 2
+
+abbrev pub fields_shown : Stmt
+fields_shown = shown (binary (e.Field (e.Up (e.Down r 2) 2) (codes "x") 2 (m.Field 0)) fix.Add (e.Field r (codes "y") 2 (m.Field 1)) op.IntAdd)
+
+abbrev pub fields : List Stmt
+fields = made ∷ field_set ∷ fields_shown ∷ []
+
+-- ---- `v: choice := choice$make_b(7)`, and two choices by its tag
+
+abbrev pub choice : Shape
+choice = shape.Name (codes "choice")
+
+abbrev pub tagged : Stmt
+tagged = declares (codes "v") choice (e.Op choice (codes "make_b") (int (pos 7) ∷ []) 2 (m.Tag 1))
+
+abbrev pub arm_a : TagArm
+arm_a = roll-TagArm (record { tag = codes "a"; variable = None; body = []; meant = m.Tag 0 })
+
+abbrev pub arm_b : TagArm
+arm_b = roll-TagArm (record { tag = codes "b"; variable = Some (int_named (codes "n")); body = shown n ∷ []; meant = m.Tag 1 })
+
+abbrev pub by_tag : List TagArm → Option (List Stmt) → Stmt
+by_tag arms others = s.Tagcase (local (codes "v")) arms others 2
+
+abbrev pub tags : List Stmt
+tags = tagged ∷ by_tag (arm_a ∷ arm_b ∷ []) None ∷ by_tag (arm_a ∷ []) (Some (text (codes "others") ∷ [])) ∷ []
+
+-- ---- `put_line("ab" || string$c2s(string$fetch("xyz", 3)))` and `put_line(int$unparse(char$c2i('A')))`
+
+abbrev pub string : List ℕ → Expr
+string t = e.Literal (value.Str t) 2
+
+abbrev pub last_char : Expr
+last_char = operation shape.Str (codes "fetch") (string (codes "xyz") ∷ int (pos 3) ∷ []) op.StrFetch
+
+abbrev pub joined : Stmt
+joined = s.PutLine (operation shape.Str (codes "append") (string (codes "ab") ∷ last_char ∷ []) op.StrAppend) 2
+
+abbrev pub code_shown : Stmt
+code_shown = shown (operation shape.Char (codes "c2i") (e.Literal (value.Char 65) 2 ∷ []) op.CharC2i)
+
+abbrev pub strings : List Stmt
+strings = joined ∷ code_shown ∷ []
+
+-- ---- a cluster: `make = proc (n: int) returns (cvt) return (rep${n: n}) end make`, `get = proc (c: cvt) returns (int) return (c.n) end get`
+
+abbrev pub rep_made : Expr
+rep_made = e.Record shape.Rep (init (codes "n") n ∷ []) 2 m.Unknown
+
+abbrev pub make : Routine
+make = routine (codes "make") (int_named (codes "n") ∷ []) (Some shape.Cvt) (s.Return (Some rep_made) 2 ∷ [])
+
+abbrev pub cvt_named : Named
+cvt_named = roll-Named (record { name = codes "c"; shape = shape.Cvt })
+
+abbrev pub get : Routine
+get = routine (codes "get") (cvt_named ∷ []) (Some shape.Int) (s.Return (Some (e.Field (local (codes "c")) (codes "n") 2 (m.Field 0))) 2 ∷ [])
+
+abbrev pub counter : List ℕ → Expr → ℕ → Expr
+counter name x place = e.Op (shape.Name (codes "counter")) name (x ∷ []) 2 (m.Routine place)
+
+-- `put_line(int$unparse(counter$get(counter$make(4))))`
+abbrev pub counter_shown : Stmt
+counter_shown = shown (counter (codes "get") (counter (codes "make") (int (pos 4)) 1) 2)
+
+-- ---- exceptions that are passed on, that carry a value, and that any handler takes
+
+-- `passing = proc () oops() resignal bad end passing`
+abbrev pub passes : Routine
+passes = routine (codes "passing") [] None (s.Resignal oops (codes "bad" ∷ []) ∷ [])
+
+-- `failing = proc () signal failure ("no") end failing`
+abbrev pub fails : Routine
+fails = routine (codes "failing") [] None (s.Signal (codes "failure") (Some (string (codes "no"))) 2 ∷ [])
+
+abbrev pub passed : Stmt
+passed = s.Except (s.Call (call (codes "passing") [] 2) 2) (says (codes "bad"))
+
+abbrev pub string_named : Named
+string_named = roll-Named (record { name = codes "s"; shape = shape.Str })
+
+abbrev pub shows_text : Handlers
+shows_text = roll-Handlers (record {
+  whens = roll-When (record { names = codes "failure" ∷ []; variable = Some string_named; body = s.PutLine (local (codes "s")) 2 ∷ [] }) ∷ [];
+  others = None;
+})
+
+abbrev pub failed : Stmt
+failed = s.Except (s.Call (call (codes "failing") [] 3) 2) shows_text
+
+abbrev pub other : Stmt
+other = s.Except oops (roll-Handlers (record { whens = []; others = Some (text (codes "others") ∷ []) }))
+
+abbrev pub passing : List Stmt
+passing = passed ∷ failed ∷ other ∷ []
+
+-- ---- a lock that a `return` gives back
+
+abbrev pub leaving : List Stmt
+leaving = lock ∷ s.Region (local (codes "l")) (s.Begin (s.Return None 2 ∷ []) 2 ∷ []) 2 ∷ []
+
+-- ---- node variables: `put_line(int$unparse(g))`, `h := 7`, `put_line(int$unparse(h))`
+
+abbrev pub node_var : List ℕ → ℕ → Expr
+node_var x place = e.Name x 2 (m.NodeVar place)
+
+abbrev pub node_vars : List Stmt
+node_vars = shown (node_var (codes "g") 0) ∷ s.Assign (target.Name (codes "h") 2 (m.NodeVar 1)) (int (pos 7)) 2 ∷ shown (node_var (codes "h") 1) ∷ []
+
+-- ---- `s: semaphore := semaphore$create(1)`, and a signal or a wait
+
+abbrev pub semaphore : Stmt
+semaphore = declares (codes "s") shape.Semaphore (operation shape.Semaphore (codes "create") (int (pos 1) ∷ []) op.SemCreate)
+
+abbrev pub signalled : Stmt
+signalled = s.Call (operation shape.Semaphore (codes "signal") (local (codes "s") ∷ []) op.SemSignal) 2
+
+abbrev pub waits : Expr
+waits = operation shape.Semaphore (codes "wait_for") (local (codes "s") ∷ int (pos 50) ∷ []) op.SemWaitFor
+
+abbrev pub waited : Stmt
+waited = s.If waits (text (codes "got") ∷ []) [] (Some (text (codes "late") ∷ [])) 2
+
+-- ---- `fork q(1)`, `x := once add(2, 3) at 2`, and a `maybe` call with a handler
+
+abbrev pub takes_number : Routine
+takes_number = routine (codes "q") (int_named (codes "n") ∷ []) None []
+
+abbrev pub forked : Stmt
+forked = s.Fork (codes "q") (int (pos 1) ∷ []) 2 (m.Routine 1)
+
+abbrev pub x : Expr
+x = local (codes "x")
+
+abbrev pub asked : Stmt
+asked = s.Remote (Some (codes "x")) (remote.Once (codes "add") (int (pos 2) ∷ int (pos 3) ∷ []) (int (pos 2)) 2 (m.Routine 1)) 2 m.Local
+
+abbrev pub asking : List Stmt
+asking = unset (codes "x") shape.Int ∷ asked ∷ shown x ∷ []
+
+abbrev pub maybe : Stmt
+maybe = s.Remote None (remote.Maybe (codes "add") (int (pos 2) ∷ int (pos 3) ∷ []) (int (pos 2)) (int (pos 100)) 2 (m.Routine 1)) 2 m.Unknown
+
+abbrev pub tried : Stmt
+tried = s.Except maybe (says (codes "late"))
+
+-- an exception without a value
+abbrev pub bare_sig : List ℕ → Sig
+bare_sig name = record { name = name; value = None }
