@@ -1,5 +1,5 @@
 -- The steps of whole programs: a call, exceptions, a loop over an array that was changed, and a lock.
-use Rattle.std.proofs.Common.{◌≡◌, ℕ, pos, List, [], ◌∷◌, codes, Option, Some, None, refl, arith}
+use Rattle.std.proofs.Common.{◌≡◌, ℕ, pos, List, [], ◌∷◌, codes, Some, refl, arith}
 use Rattle.std.specs.Fmt.{decimal}
 use Rattle.std.proofs.lemmas.Fmt.{decimal-digits_of}
 use Rattle.clu_tree.specs.declared.value.Value.{Value}
@@ -12,49 +12,20 @@ use Rattle.clu_tree.specs.declared.tree.Stmt.{Stmt}
 use Rattle.clu_tree.specs.declared.tree.Stmt.TheVariants as s
 use Rattle.clu_tree.specs.declared.tree.Handlers.{out-roll-Handlers}
 use Rattle.clu_tree.specs.declared.tree.When.{out-roll-When}
-use Rattle.clu_tree.specs.declared.program.Routine.{Routine}
 use Rattle.obj_region.specs.declared.object.Obj.{Obj}
 use Rattle.obj_region.specs.declared.object.Obj.TheVariants as obj
 use Rattle.machine_rules.specs.declared.item.Item.{Item}
 use Rattle.machine_rules.specs.declared.item.Item.TheVariants as i
 use Rattle.machine_rules.specs.declared.frame.Var.{Var}
-use Rattle.machine_rules.specs.declared.frame.Frame.{Frame}
 use Rattle.machine_rules.specs.declared.act.Act.{Act}
 use Rattle.machine_rules.specs.declared.act.Act.TheVariants as act
-use Rattle.machine_rules.specs.Examples.{added, adds, all_shown, array_loop, at, changed, ints, local, lock, locked, oops, program, routine, shown, signals_bad, text, two_signals, var}
-use Rattle.machine_rules.specs.Row.{World, bare_world, entry, start}
-use Rattle.machine_rules.specs.Runs.{Ran, run}
+use Rattle.machine_rules.specs.Examples.{added, adds, all_shown, array_loop, at, begins, changed, did, frame, holding, ints, local, lock, locked, oops, over, shown, signals_bad, text, two_signals, var, world}
+use Rattle.machine_rules.specs.Row.{World, entry}
+use Rattle.machine_rules.specs.Runs.{run}
 use Rattle.machine_rules.proofs.Runs.{run_on}
 
--- ---- programs and frames
-
-abbrev main : List Stmt → Routine
-main body = routine (codes "p") [] None body
-
--- where a program begins whose first routine has this body
-abbrev world : List Stmt → List Routine → World
-world body others = bare_world (program body others) 0
-
-abbrev begins : List Stmt → List Frame
-begins body = start 0 (main body) []
-
--- the same world with this object alone
-abbrev holding : World → Obj → World
-holding w o = record w { store = o ∷ [] }
-
-abbrev frame : List Item → List Var → List Value → Frame
-frame work vars values = record { routine = 0; line = 2; vars = vars; work = work; values = values }
-
--- what stands after some steps that had these acts
-abbrev did : World → List Act → List Item → List Var → Option Ran
-did w acts work vars = Some (record { world = w; frames = frame work vars [] ∷ []; acts = acts; left = [] })
-
--- the process is over
-abbrev over : World → List Act → Option Ran
-over w acts = Some (record { world = w; frames = []; acts = acts; left = [] })
-
 -- `put_line(t)`: Exec, Eval, Print
-text_steps : (w : World) (t : List ℕ) (work : List Item) (vars : List Var) → run 3 w (frame (i.Exec (text t) ∷ work) vars [] ∷ []) ≡ did w (act.Put t ∷ []) work vars
+pub text_steps : (w : World) (t : List ℕ) (work : List Item) (vars : List Var) → run 3 w (frame (i.Exec (text t) ∷ work) vars [] ∷ []) ≡ did w (act.Put t ∷ []) work vars
 text_steps w t work vars = simp (s.outs-PutLine, e.outs-Literal) refl
 
 decimal_five : decimal 5 ≡ codes "5"

@@ -22,7 +22,13 @@ use Rattle.clu_tree.specs.declared.tree.Handlers.{Handlers, roll-Handlers}
 use Rattle.clu_tree.specs.declared.tree.When.{roll-When}
 use Rattle.clu_tree.specs.declared.program.Routine.{Routine}
 use Rattle.clu_tree.specs.declared.program.Program.{Program}
+use Rattle.obj_region.specs.declared.object.Obj.{Obj}
+use Rattle.machine_rules.specs.declared.act.Act.{Act}
+use Rattle.machine_rules.specs.declared.item.Item.{Item}
 use Rattle.machine_rules.specs.declared.frame.Var.{Var}
+use Rattle.machine_rules.specs.declared.frame.Frame.{Frame}
+use Rattle.machine_rules.specs.Row.{World, bare_world, start}
+use Rattle.machine_rules.specs.Runs.{Ran}
 
 -- ---- programs
 
@@ -156,3 +162,28 @@ at n = record { 0 = n }
 
 abbrev pub var : List ℕ → Shape → Value → Var
 var x t v = record { name = x; shape = t; value = Some v }
+
+-- the same world with this object alone
+abbrev pub holding : World → Obj → World
+holding w o = record w { store = o ∷ [] }
+
+-- ---- where a program stands
+
+-- where a program begins whose first routine has this body
+abbrev pub world : List Stmt → List Routine → World
+world body others = bare_world (program body others) 0
+
+abbrev pub begins : List Stmt → List Frame
+begins body = start 0 (routine (codes "p") [] None body) []
+
+-- a frame of the first routine
+abbrev pub frame : List Item → List Var → List Value → Frame
+frame work vars values = record { routine = 0; line = 2; vars = vars; work = work; values = values }
+
+-- what stands after some steps that had these acts
+abbrev pub did : World → List Act → List Item → List Var → Option Ran
+did w acts work vars = Some (record { world = w; frames = frame work vars [] ∷ []; acts = acts; left = [] })
+
+-- the process is over
+abbrev pub over : World → List Act → Option Ran
+over w acts = Some (record { world = w; frames = []; acts = acts; left = [] })
