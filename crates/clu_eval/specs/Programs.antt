@@ -1,6 +1,5 @@
 -- Trees of further programs of the tests. Each line of a tree is 2.
-use Rattle.std.specs.Prelude.{ℕ, ℤ, pos, true, false, List, [], ◌∷◌, codes, Option, Some, None}
-use Rattle.clu_tree.specs.declared.value.Value.{Value}
+use Rattle.std.specs.Prelude.{ℕ, ℤ, pos, Bool, true, false, List, [], ◌∷◌, codes, Option, Some, None}
 use Rattle.clu_tree.specs.declared.value.Value.TheVariants as value
 use Rattle.clu_tree.specs.declared.value.Sig.{Sig}
 use Rattle.clu_tree.specs.declared.shape.Shape.{Shape}
@@ -13,7 +12,6 @@ use Rattle.clu_tree.specs.declared.tree.Infix.{Infix}
 use Rattle.clu_tree.specs.declared.tree.Infix.TheVariants as fix
 use Rattle.clu_tree.specs.declared.tree.Iter.TheVariants as iter
 use Rattle.clu_tree.specs.declared.tree.Target.TheVariants as target
-use Rattle.clu_tree.specs.declared.tree.Remote.{Remote}
 use Rattle.clu_tree.specs.declared.tree.Remote.TheVariants as remote
 use Rattle.clu_tree.specs.declared.tree.Expr.{Expr}
 use Rattle.clu_tree.specs.declared.tree.Expr.TheVariants as e
@@ -35,6 +33,9 @@ binary a o b does = e.Binary a o b 2 (m.Op does)
 abbrev pub operation : Shape → List ℕ → List Expr → Op → Expr
 operation t name args does = e.Op t name args 2 (m.Op does)
 
+abbrev pub string : List ℕ → Expr
+string t = e.Literal (value.Str t) 2
+
 abbrev pub sets : List ℕ → Expr → Stmt
 sets x v = s.Assign (target.Name x 2 m.Local) v 2
 
@@ -44,33 +45,39 @@ declares x t v = s.Declare x t (Some v) 2
 abbrev pub unset : List ℕ → Shape → Stmt
 unset x t = s.Declare x t None 2
 
+abbrev pub named : List ℕ → Shape → Named
+named x t = roll-Named (record { name = x; shape = t })
+
 -- ---- `n: int := 0`, `while n < 2 do n := n + 1 end`, and a choice of three by `n`
 
 abbrev pub n : Expr
 n = local (codes "n")
 
+abbrev pub is_number : ℤ → Expr
+is_number k = binary n fix.Equal (int k) op.IntEqual
+
 abbrev pub counted : Stmt
 counted = s.While (binary n fix.Lt (int (pos 2)) op.IntLt) (sets (codes "n") (binary n fix.Add (int (pos 1)) op.IntAdd) ∷ []) 2
 
 abbrev pub is_two : Arm
-is_two = roll-Arm (record { test = binary n fix.Equal (int (pos 2)) op.IntEqual; body = text (codes "two") ∷ [] })
+is_two = roll-Arm (record { test = is_number (pos 2); body = text (codes "two") ∷ [] })
 
 abbrev pub chosen : Stmt
-chosen = s.If (binary n fix.Equal (int (pos 1)) op.IntEqual) (text (codes "one") ∷ []) (is_two ∷ []) (Some (text (codes "more") ∷ [])) 2
+chosen = s.If (is_number (pos 1)) (text (codes "one") ∷ []) (is_two ∷ []) (Some (text (codes "more") ∷ [])) 2
 
 abbrev pub counting : List Stmt
 counting = declares (codes "n") shape.Int (int (pos 0)) ∷ counted ∷ chosen ∷ []
 
 -- ---- `b: bool`, and a choice that never looks at it
 
-abbrev pub unseen : Expr
-unseen = local (codes "b")
+abbrev pub unseen : Bool → Infix → Expr
+unseen b o = e.Binary (truth b) o (local (codes "b")) 2 m.Unknown
 
 abbrev pub either : Arm
-either = roll-Arm (record { test = e.Binary (truth true) fix.Cor unseen 2 m.Unknown; body = s.Begin (text (codes "cor") ∷ []) 2 ∷ [] })
+either = roll-Arm (record { test = unseen true fix.Cor; body = s.Begin (text (codes "cor") ∷ []) 2 ∷ [] })
 
 abbrev pub choosing : List Stmt
-choosing = unset (codes "b") shape.Bool ∷ s.If (e.Binary (truth false) fix.Cand unseen 2 m.Unknown) (text (codes "cand") ∷ []) (either ∷ []) None 2 ∷ []
+choosing = unset (codes "b") shape.Bool ∷ s.If (unseen false fix.Cand) (text (codes "cand") ∷ []) (either ∷ []) None 2 ∷ []
 
 -- ---- `for i: int in int$from_to(1, 2) do put_line(int$unparse(i)) end` and `put_line(int$unparse(now()))`
 
@@ -84,6 +91,44 @@ shrunk = s.Call (operation ints (codes "remh") (local (codes "a") ∷ []) op.Arr
 
 abbrev pub shrinking : List Stmt
 shrinking = both ∷ over_array (shrunk ∷ shown (local (codes "i")) ∷ []) ∷ []
+
+-- ---- the other operations of arrays, on one that begins empty with the low 0
+
+abbrev pub a : Expr
+a = local (codes "a")
+
+abbrev pub on_a : List ℕ → Op → Expr
+on_a name does = operation ints name (a ∷ []) does
+
+-- `array[int]$name(a, n)`
+abbrev pub adds_to_a : List ℕ → ℤ → Op → Stmt
+adds_to_a name k does = s.Call (operation ints name (a ∷ int k ∷ []) does) 2
+
+abbrev pub made_empty : Stmt
+made_empty = declares (codes "a") ints (operation ints (codes "create") (int (pos 0) ∷ []) op.ArrCreate)
+
+-- `put_line(int$unparse(array[int]$name(a) + array[int]$other(a)))`
+abbrev pub sum_shown : List ℕ → Op → List ℕ → Op → Stmt
+sum_shown name does other also = shown (binary (on_a name does) fix.Add (on_a other also) op.IntAdd)
+
+abbrev pub low_and_size : Stmt
+low_and_size = sum_shown (codes "low") op.ArrLow (codes "size") op.ArrSize
+
+abbrev pub top_and_bottom : Stmt
+top_and_bottom = sum_shown (codes "top") op.ArrTop (codes "bottom") op.ArrBottom
+
+-- `if a = array[int]$new() then put_line("same") else put_line("other") end`
+abbrev pub compared : Stmt
+compared = s.If (binary a fix.Equal (operation ints (codes "new") [] op.ArrNew) op.ArrEqual) (text (codes "same") ∷ []) [] (Some (text (codes "other") ∷ [])) 2
+
+abbrev pub growing : List Stmt
+growing = made_empty ∷ adds_to_a (codes "addh") (pos 5) op.ArrAddh ∷ adds_to_a (codes "addl") (pos 4) op.ArrAddl ∷ []
+
+abbrev pub showing : List Stmt
+showing = low_and_size ∷ top_and_bottom ∷ []
+
+abbrev pub losing : List Stmt
+losing = s.Call (on_a (codes "reml") op.ArrReml) 2 ∷ shown (on_a (codes "high") op.ArrHigh) ∷ compared ∷ []
 
 -- ---- `r: pair := pair${x: 1, y: 2}`, `r.y := 5`, `put_line(int$unparse(up(down(r)).x + r.y))`
 
@@ -102,8 +147,14 @@ made = declares (codes "r") pair (e.Record pair (init (codes "x") (int (pos 1)) 
 abbrev pub field_set : Stmt
 field_set = s.Assign (target.Field r (codes "y") 2 (m.Field 1)) (int (pos 5)) 2
 
+abbrev pub field : Expr → List ℕ → ℕ → Expr
+field owner name place = e.Field owner name 2 (m.Field place)
+
+abbrev pub up_and_down : Expr
+up_and_down = e.Up (e.Down r 2) 2
+
 abbrev pub fields_shown : Stmt
-fields_shown = shown (binary (e.Field (e.Up (e.Down r 2) 2) (codes "x") 2 (m.Field 0)) fix.Add (e.Field r (codes "y") 2 (m.Field 1)) op.IntAdd)
+fields_shown = shown (binary (field up_and_down (codes "x") 0) fix.Add (field r (codes "y") 1) op.IntAdd)
 
 abbrev pub fields : List Stmt
 fields = made ∷ field_set ∷ fields_shown ∷ []
@@ -130,9 +181,6 @@ tags = tagged ∷ by_tag (arm_a ∷ arm_b ∷ []) None ∷ by_tag (arm_a ∷ [])
 
 -- ---- `put_line("ab" || string$c2s(string$fetch("xyz", 3)))` and `put_line(int$unparse(char$c2i('A')))`
 
-abbrev pub string : List ℕ → Expr
-string t = e.Literal (value.Str t) 2
-
 abbrev pub last_char : Expr
 last_char = operation shape.Str (codes "fetch") (string (codes "xyz") ∷ int (pos 3) ∷ []) op.StrFetch
 
@@ -153,11 +201,8 @@ rep_made = e.Record shape.Rep (init (codes "n") n ∷ []) 2 m.Unknown
 abbrev pub make : Routine
 make = routine (codes "make") (int_named (codes "n") ∷ []) (Some shape.Cvt) (s.Return (Some rep_made) 2 ∷ [])
 
-abbrev pub cvt_named : Named
-cvt_named = roll-Named (record { name = codes "c"; shape = shape.Cvt })
-
 abbrev pub get : Routine
-get = routine (codes "get") (cvt_named ∷ []) (Some shape.Int) (s.Return (Some (e.Field (local (codes "c")) (codes "n") 2 (m.Field 0))) 2 ∷ [])
+get = routine (codes "get") (named (codes "c") shape.Cvt ∷ []) (Some shape.Int) (s.Return (Some (field (local (codes "c")) (codes "n") 0)) 2 ∷ [])
 
 abbrev pub counter : List ℕ → Expr → ℕ → Expr
 counter name x place = e.Op (shape.Name (codes "counter")) name (x ∷ []) 2 (m.Routine place)
@@ -176,20 +221,21 @@ passes = routine (codes "passing") [] None (s.Resignal oops (codes "bad" ∷ [])
 abbrev pub fails : Routine
 fails = routine (codes "failing") [] None (s.Signal (codes "failure") (Some (string (codes "no"))) 2 ∷ [])
 
-abbrev pub passed : Stmt
-passed = s.Except (s.Call (call (codes "passing") [] 2) 2) (says (codes "bad"))
+-- `name()`, of the routine at this place
+abbrev pub called : List ℕ → ℕ → Stmt
+called name place = s.Call (call name [] place) 2
 
-abbrev pub string_named : Named
-string_named = roll-Named (record { name = codes "s"; shape = shape.Str })
+abbrev pub passed : Stmt
+passed = s.Except (called (codes "passing") 2) (says (codes "bad"))
 
 abbrev pub shows_text : Handlers
 shows_text = roll-Handlers (record {
-  whens = roll-When (record { names = codes "failure" ∷ []; variable = Some string_named; body = s.PutLine (local (codes "s")) 2 ∷ [] }) ∷ [];
+  whens = roll-When (record { names = codes "failure" ∷ []; variable = Some (named (codes "s") shape.Str); body = s.PutLine (local (codes "s")) 2 ∷ [] }) ∷ [];
   others = None;
 })
 
 abbrev pub failed : Stmt
-failed = s.Except (s.Call (call (codes "failing") [] 3) 2) shows_text
+failed = s.Except (called (codes "failing") 3) shows_text
 
 abbrev pub other : Stmt
 other = s.Except oops (roll-Handlers (record { whens = []; others = Some (text (codes "others") ∷ []) }))
@@ -217,6 +263,10 @@ semaphore = declares (codes "s") shape.Semaphore (operation shape.Semaphore (cod
 
 abbrev pub signalled : Stmt
 signalled = s.Call (operation shape.Semaphore (codes "signal") (local (codes "s") ∷ []) op.SemSignal) 2
+
+-- `semaphore$wait(s)`
+abbrev pub waited_on : Stmt
+waited_on = s.Call (operation shape.Semaphore (codes "wait") (local (codes "s") ∷ []) op.SemWait) 2
 
 abbrev pub waits : Expr
 waits = operation shape.Semaphore (codes "wait_for") (local (codes "s") ∷ int (pos 50) ∷ []) op.SemWaitFor
