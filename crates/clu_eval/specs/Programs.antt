@@ -21,7 +21,7 @@ use Rattle.clu_tree.specs.declared.tree.Stmt.TheVariants as s
 use Rattle.clu_tree.specs.declared.tree.Arm.{Arm, roll-Arm}
 use Rattle.clu_tree.specs.declared.tree.TagArm.{TagArm, roll-TagArm}
 use Rattle.clu_tree.specs.declared.tree.Handlers.{Handlers, roll-Handlers}
-use Rattle.clu_tree.specs.declared.tree.When.{roll-When}
+use Rattle.clu_tree.specs.declared.tree.When.{When, roll-When}
 use Rattle.clu_tree.specs.declared.program.Routine.{Routine}
 use Rattle.machine_rules.specs.Examples.{both, call, int, int_named, ints, local, lock, oops, over_array, routine, says, shown, text, truth}
 
@@ -118,8 +118,11 @@ abbrev pub top_and_bottom : Stmt
 top_and_bottom = sum_shown (codes "top") op.ArrTop (codes "bottom") op.ArrBottom
 
 -- `if a = array[int]$new() then put_line("same") else put_line("other") end`
+abbrev pub is_new : Expr
+is_new = binary a fix.Equal (operation ints (codes "new") [] op.ArrNew) op.ArrEqual
+
 abbrev pub compared : Stmt
-compared = s.If (binary a fix.Equal (operation ints (codes "new") [] op.ArrNew) op.ArrEqual) (text (codes "same") ∷ []) [] (Some (text (codes "other") ∷ [])) 2
+compared = s.If is_new (text (codes "same") ∷ []) [] (Some (text (codes "other") ∷ [])) 2
 
 abbrev pub growing : List Stmt
 growing = made_empty ∷ adds_to_a (codes "addh") (pos 5) op.ArrAddh ∷ adds_to_a (codes "addl") (pos 4) op.ArrAddl ∷ []
@@ -228,17 +231,23 @@ called name place = s.Call (call name [] place) 2
 abbrev pub passed : Stmt
 passed = s.Except (called (codes "passing") 2) (says (codes "bad"))
 
+abbrev pub handlers : List When → Option (List Stmt) → Handlers
+handlers whens others = roll-Handlers (record { whens = whens; others = others })
+
+abbrev pub takes_text : When
+takes_text = roll-When (record { names = codes "failure" ∷ []; variable = Some (named (codes "s") shape.Str); body = s.PutLine (local (codes "s")) 2 ∷ [] })
+
 abbrev pub shows_text : Handlers
-shows_text = roll-Handlers (record {
-  whens = roll-When (record { names = codes "failure" ∷ []; variable = Some (named (codes "s") shape.Str); body = s.PutLine (local (codes "s")) 2 ∷ [] }) ∷ [];
-  others = None;
-})
+shows_text = handlers (takes_text ∷ []) None
 
 abbrev pub failed : Stmt
 failed = s.Except (called (codes "failing") 3) shows_text
 
+abbrev pub to_others : Handlers
+to_others = handlers [] (Some (text (codes "others") ∷ []))
+
 abbrev pub other : Stmt
-other = s.Except oops (roll-Handlers (record { whens = []; others = Some (text (codes "others") ∷ []) }))
+other = s.Except oops to_others
 
 abbrev pub passing : List Stmt
 passing = passed ∷ failed ∷ other ∷ []

@@ -4,11 +4,11 @@ ghost use Rattle.machine_rules.specs.Examples as of;
 ghost use Rattle.clu_eval.specs.Programs as more;
 
 use super::trees::{
-    call, declares, int, local, named, one, operation, routine, says, shown, string, text, three,
-    two, unset,
+    call, declares, handlers, int, line, local, named, one, operation, routine, says, shown,
+    string, three, two, unset,
 };
 use crate::Memory;
-use clu_tree::{Expr, Handlers, Meant, Op, Routine, Shape, Sig, Stmt, Text, make};
+use clu_tree::{Expr, Handlers, Meant, Op, Routine, Shape, Sig, Stmt, Text, When, make};
 use sqlite_items::Items;
 use std::alloc::Global;
 
@@ -72,25 +72,40 @@ pub fn three_routines(alloc: Global) -> Result<Items<Routine>, Memory>
     three(alloc, signals, passes, fails)
 }
 
+/// `when failure (s: string): put_line(s)`
+fn takes_text(alloc: Global) -> Result<When, Memory>
+    ensures { IfOk result (λ handler. handler ≡ more.takes_text) }
+{
+    let s = local(alloc, b"s")?;
+    let body = one(alloc, make::put_line(s, 2))?;
+    let variable = named(alloc, b"s", Shape::Str)?;
+    let names = one(alloc, Text::from_slice(alloc, b"failure")?)?;
+    Ok(make::when(names, Some(variable), body))
+}
+
 /// `except when failure (s: string): put_line(s) end`
 fn shows_text(alloc: Global) -> Result<Handlers, Memory>
     ensures { IfOk result (λ handlers. handlers ≡ more.shows_text) }
 {
-    let s = local(alloc, b"s")?;
-    let body = one(alloc, make::put_line(s, 2))?;
-    let names = one(alloc, Text::from_slice(alloc, b"failure")?)?;
-    let variable = named(alloc, b"s", Shape::Str)?;
-    let whens = one(alloc, make::when(names, Some(variable), body))?;
-    Ok(make::handlers(whens, None))
+    let whens = one(alloc, takes_text(alloc)?)?;
+    Ok(handlers(whens, None))
+}
+
+/// `except others: put_line("others") end`
+fn to_others(alloc: Global) -> Result<Handlers, Memory>
+    ensures { IfOk result (λ handlers. handlers ≡ more.to_others) }
+{
+    let body = line(alloc, b"others")?;
+    Ok(handlers(Items::new(alloc), Some(body)))
 }
 
 /// `oops() except others: put_line("others") end`
 fn other(alloc: Global) -> Result<Stmt, Memory>
     ensures { IfOk result (λ stmt. stmt ≡ more.other) }
 {
-    let oops = called(alloc, b"oops", 1)?;
-    let others = one(alloc, text(alloc, b"others")?)?;
-    make::except(alloc, oops, make::handlers(Items::new(alloc), Some(others)))
+    let call = called(alloc, b"oops", 1)?;
+    let handlers = to_others(alloc)?;
+    make::except(alloc, call, handlers)
 }
 
 /// `passing() except when bad: put_line("bad") end`
@@ -142,7 +157,7 @@ pub fn locking(alloc: Global) -> Result<Items<Stmt>, Memory>
     ensures { IfOk result (λ body. body ≡ of.lock ∷ of.locked ∷ []) }
 {
     let lock = lock(alloc)?;
-    let body = one(alloc, text(alloc, b"in")?)?;
+    let body = line(alloc, b"in")?;
     let locked = make::region(local(alloc, b"l")?, body, 2);
     two(alloc, lock, locked)
 }
@@ -221,8 +236,8 @@ pub fn waiting(alloc: Global) -> Result<Items<Stmt>, Memory>
     ensures { IfOk result (λ body. body ≡ more.semaphore ∷ more.waited ∷ []) }
 {
     let test = waits(alloc)?;
-    let got = one(alloc, text(alloc, b"got")?)?;
-    let late = one(alloc, text(alloc, b"late")?)?;
+    let got = line(alloc, b"got")?;
+    let late = line(alloc, b"late")?;
     let waited = make::if_then(test, got, Items::new(alloc), Some(late), 2);
     let semaphore = semaphore(alloc)?;
     two(alloc, semaphore, waited)

@@ -4,8 +4,8 @@ ghost use Rattle.machine_rules.specs.Examples as of;
 ghost use Rattle.clu_eval.specs.Programs as more;
 
 use super::trees::{
-    binary, call, declares, init, int, local, minus, named, named_type, one, operation, routine,
-    says, sets, shown, string, text, three, truth, two, unset,
+    binary, call, declares, init, int, line, local, minus, named, named_type, one, operation,
+    routine, says, sets, shown, string, text, three, truth, two, unset,
 };
 use crate::Memory;
 use clu_tree::{Arm, Expr, Infix, Meant, Op, Routine, Shape, Stmt, TagArm, Text, make};
@@ -219,16 +219,23 @@ pub fn showing(alloc: Global) -> Result<Items<Stmt>, Memory>
     two(alloc, bounds, ends)
 }
 
-/// `if a = array[int]$new() then put_line("same") else put_line("other") end`
-fn compared(alloc: Global) -> Result<Stmt, Memory>
-    ensures { IfOk result (λ stmt. stmt ≡ more.compared) }
+/// `a = array[int]$new()`
+fn is_new(alloc: Global) -> Result<Expr, Memory>
+    ensures { IfOk result (λ x. x ≡ more.is_new) }
 {
     let shape = ints(alloc)?;
     let made = operation(alloc, shape, b"new", Items::new(alloc), Op::ArrNew)?;
     let a = local(alloc, b"a")?;
-    let test = binary(alloc, a, Infix::Equal, made, Op::ArrEqual)?;
-    let same = one(alloc, text(alloc, b"same")?)?;
-    let other = one(alloc, text(alloc, b"other")?)?;
+    binary(alloc, a, Infix::Equal, made, Op::ArrEqual)
+}
+
+/// `if a = array[int]$new() then put_line("same") else put_line("other") end`
+fn compared(alloc: Global) -> Result<Stmt, Memory>
+    ensures { IfOk result (λ stmt. stmt ≡ more.compared) }
+{
+    let test = is_new(alloc)?;
+    let same = line(alloc, b"same")?;
+    let other = line(alloc, b"other")?;
     Ok(make::if_then(test, same, Items::new(alloc), Some(other), 2))
 }
 
@@ -270,7 +277,7 @@ fn is_two(alloc: Global) -> Result<Arm, Memory>
     ensures { IfOk result (λ arm. arm ≡ more.is_two) }
 {
     let test = is_number(alloc, 2)?;
-    let body = one(alloc, text(alloc, b"two")?)?;
+    let body = line(alloc, b"two")?;
     Ok(make::arm(test, body))
 }
 
@@ -280,8 +287,8 @@ fn chosen(alloc: Global) -> Result<Stmt, Memory>
 {
     let arms = one(alloc, is_two(alloc)?)?;
     let test = is_number(alloc, 1)?;
-    let body = one(alloc, text(alloc, b"one")?)?;
-    let others = one(alloc, text(alloc, b"more")?)?;
+    let body = line(alloc, b"one")?;
+    let others = line(alloc, b"more")?;
     Ok(make::if_then(test, body, arms, Some(others), 2))
 }
 
@@ -308,7 +315,7 @@ fn either(alloc: Global) -> Result<Arm, Memory>
     ensures { IfOk result (λ arm. arm ≡ more.either) }
 {
     let test = unseen(alloc, true, Infix::Cor)?;
-    let block = one(alloc, text(alloc, b"cor")?)?;
+    let block = line(alloc, b"cor")?;
     let body = one(alloc, make::begin(block, 2))?;
     Ok(make::arm(test, body))
 }
@@ -319,7 +326,7 @@ pub fn choosing(alloc: Global) -> Result<Items<Stmt>, Memory>
 {
     let arms = one(alloc, either(alloc)?)?;
     let test = unseen(alloc, false, Infix::Cand)?;
-    let body = one(alloc, text(alloc, b"cand")?)?;
+    let body = line(alloc, b"cand")?;
     let chosen = make::if_then(test, body, arms, None, 2);
     let b = unset(alloc, b"b", Shape::Bool)?;
     two(alloc, b, chosen)
@@ -431,7 +438,7 @@ fn by_arm(alloc: Global) -> Result<Stmt, Memory>
 fn by_others(alloc: Global) -> Result<Stmt, Memory>
     ensures { IfOk result (λ stmt. stmt ≡ more.by_tag (more.arm_a ∷ []) (Some (of.text (codes "others") ∷ []))) }
 {
-    let others = one(alloc, text(alloc, b"others")?)?;
+    let others = line(alloc, b"others")?;
     let arms = one(alloc, arm_a(alloc)?)?;
     Ok(make::tagcase(local(alloc, b"v")?, arms, Some(others), 2))
 }

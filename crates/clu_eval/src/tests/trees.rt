@@ -6,7 +6,7 @@ ghost use Rattle.clu_eval.specs.Programs as more;
 use crate::Memory;
 use clu_tree::{
     Expr, FieldInit, Handlers, Infix, Meant, Named, Op, Prefix, Program, Routine, Shape, Stmt,
-    Text, make,
+    Text, When, make,
 };
 use sqlite_items::Items;
 use std::alloc::Global;
@@ -130,6 +130,13 @@ pub fn text(alloc: Global, line: &[u8]) -> Result<Stmt, Memory>
     Ok(make::put_line(string(alloc, line)?, 2))
 }
 
+/// The body `put_line(line)`.
+pub fn line(alloc: Global, line: &[u8]) -> Result<Items<Stmt>, Memory>
+    ensures { IfOk result (λ body. body ≡ of.text line.now ∷ []) }
+{
+    one(alloc, text(alloc, line)?)
+}
+
 /// `put_line(int$unparse(x))`
 pub fn shown(alloc: Global, x: Expr) -> Result<Stmt, Memory>
     ensures { IfOk result (λ stmt. stmt ≡ of.shown x) }
@@ -161,14 +168,21 @@ pub fn sets(alloc: Global, name: &[u8], value: Expr) -> Result<Stmt, Memory>
     Ok(make::assign(target, value, 2))
 }
 
+/// `except whens others: others end`
+pub fn handlers(whens: Items<When>, others: Option<Items<Stmt>>) -> Handlers
+    ensures { result ≡ more.handlers whens others }
+{
+    make::handlers(whens, others)
+}
+
 /// `except when name: put_line("name") end`
 pub fn says(alloc: Global, name: &[u8]) -> Result<Handlers, Memory>
     ensures { IfOk result (λ handlers. handlers ≡ of.says name.now) }
 {
-    let body = one(alloc, text(alloc, name)?)?;
+    let body = line(alloc, name)?;
     let names = one(alloc, Text::from_slice(alloc, name)?)?;
     let whens = one(alloc, make::when(names, None, body))?;
-    Ok(make::handlers(whens, None))
+    Ok(handlers(whens, None))
 }
 
 // ---- programs
