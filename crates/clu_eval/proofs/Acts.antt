@@ -1,5 +1,5 @@
 -- Programs that wait for the node: where each stands by what it told it, and how it goes on once the node answers.
-use Rattle.std.proofs.Common.{◌≡◌, ℕ, pos, true, false, List, [], ◌∷◌, codes, Option, Some, None, refl, arith}
+use Rattle.std.proofs.Common.{◌≡◌, ℕ, pos, true, false, List, [], ◌∷◌, codes, Some, None, refl, arith}
 use Rattle.std.specs.Fmt.{decimal}
 use Rattle.std.proofs.lemmas.Fmt.{decimal_digit}
 use Rattle.clu_tree.specs.declared.value.Value.TheVariants as value
@@ -11,7 +11,6 @@ use Rattle.clu_tree.specs.declared.tree.Expr.TheVariants as e
 use Rattle.clu_tree.specs.declared.tree.Stmt.{Stmt}
 use Rattle.clu_tree.specs.declared.tree.Stmt.TheVariants as s
 use Rattle.clu_tree.specs.declared.tree.Handlers.{out-roll-Handlers}
-use Rattle.clu_tree.specs.declared.program.Routine.{Routine}
 use Rattle.obj_region.specs.declared.object.Obj.TheVariants as obj
 use Rattle.machine_rules.specs.declared.item.Catch.TheVariants.{Handle}
 use Rattle.machine_rules.specs.declared.item.Item.{Item}
@@ -20,9 +19,9 @@ use Rattle.machine_rules.specs.declared.frame.Var.{Var}
 use Rattle.machine_rules.specs.declared.frame.Frame.{Frame}
 use Rattle.machine_rules.specs.declared.act.Act.{Act}
 use Rattle.machine_rules.specs.declared.act.Act.TheVariants as act
-use Rattle.machine_rules.specs.Examples.{adds, at, begins, did, frame, int, over, routine, says, shown, text, var, world}
-use Rattle.machine_rules.specs.Row.{World, bare_world, give, gives, goes, raise, start}
-use Rattle.machine_rules.specs.Runs.{Ran, run}
+use Rattle.machine_rules.specs.Examples.{adds, at, begins, did, frame, int, over, says, shown, text, var, world}
+use Rattle.machine_rules.specs.Row.{World, give, gives, goes, raise}
+use Rattle.machine_rules.specs.Runs.{run}
 use Rattle.machine_rules.proofs.Runs.{run_on}
 use Rattle.machine_rules.proofs.WorkedPrograms.{text_steps}
 use Rattle.clu_eval.specs.Programs.{asking, bare_sig, forked, maybe, node_var, node_vars, semaphore, signalled, takes_number, tried, waited, waited_on, x}

@@ -13,17 +13,13 @@ use Rattle.clu_tree.specs.declared.tree.Expr.TheVariants as e
 use Rattle.clu_tree.specs.declared.tree.Stmt.{Stmt, roll-Stmt, out-roll-Stmt}
 use Rattle.clu_tree.specs.declared.tree.Stmt.TheOpen as sf
 use Rattle.clu_tree.specs.declared.tree.Stmt.TheVariants as s
-use Rattle.clu_tree.specs.declared.program.Routine.{Routine}
-use Rattle.obj_region.specs.declared.object.Obj.{Obj}
 use Rattle.obj_region.specs.declared.object.Obj.TheVariants as obj
 use Rattle.machine_rules.specs.declared.item.Item.{Item}
 use Rattle.machine_rules.specs.declared.item.Item.TheVariants as i
 use Rattle.machine_rules.specs.declared.frame.Var.{Var}
-use Rattle.machine_rules.specs.declared.frame.Frame.{Frame}
-use Rattle.machine_rules.specs.declared.act.Act.{Act}
 use Rattle.machine_rules.specs.declared.act.Act.TheVariants as act
-use Rattle.machine_rules.specs.Examples.{at, begins, did, frame, holding, int, ints, local, over, over_array, shown, text, truth, var, world}
-use Rattle.machine_rules.specs.Row.{World, bare_world, start}
+use Rattle.machine_rules.specs.Examples.{at, begins, did, frame, holding, int, ints, local, over, over_array, shown, text, var, world}
+use Rattle.machine_rules.specs.Row.{World}
 use Rattle.machine_rules.specs.Runs.{Ran, run}
 use Rattle.machine_rules.proofs.Runs.{run_on}
 use Rattle.clu_eval.specs.Programs.{binary, chosen, choosing, counted, counting, field_set, fields, fields_shown, is_number, n, numbers, pair, r, sets, shrinking, shrunk, unseen}

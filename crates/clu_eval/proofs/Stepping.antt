@@ -8,7 +8,7 @@ use Rattle.obj_region.specs.Store.{Store}
 use Rattle.eval_objects.specs.Seen.{took}
 use Rattle.machine_rules.specs.declared.frame.Frame.{Frame}
 use Rattle.machine_rules.specs.declared.act.Act.{Act}
-use Rattle.machine_rules.specs.Row.{World, Next, row}
+use Rattle.machine_rules.specs.Row.{Next, row}
 use Rattle.machine_rules.specs.Runs.{Ran, after, begun, run, stepping, vars_after}
 use Rattle.clu_eval.specs.Examples.{Standing, end_of, standing, stepped}
 

@@ -1,8 +1,7 @@
 -- The steps of programs with oneofs, strings, a cluster, exceptions that are passed on, and a lock that a `return` gives back.
-use Rattle.std.proofs.Common.{◌≡◌, ℕ, pos, List, [], ◌∷◌, codes, Option, Some, None, refl, arith}
+use Rattle.std.proofs.Common.{◌≡◌, pos, List, [], ◌∷◌, codes, Some, None, refl, arith}
 use Rattle.std.specs.Fmt.{decimal}
 use Rattle.std.proofs.lemmas.Fmt.{decimal-digits_of, decimal_digit}
-use Rattle.clu_tree.specs.declared.value.Value.{Value}
 use Rattle.clu_tree.specs.declared.value.Value.TheVariants as value
 use Rattle.clu_tree.specs.declared.shape.Shape.TheVariants as shape
 use Rattle.clu_tree.specs.declared.op.Op.TheVariants as op
@@ -10,19 +9,16 @@ use Rattle.clu_tree.specs.declared.tree.Expr.TheVariants as e
 use Rattle.clu_tree.specs.declared.tree.Stmt.{Stmt}
 use Rattle.clu_tree.specs.declared.tree.Stmt.TheVariants as s
 use Rattle.clu_tree.specs.declared.tree.Handlers.{out-roll-Handlers}
-use Rattle.clu_tree.specs.declared.program.Routine.{Routine}
-use Rattle.obj_region.specs.declared.object.Obj.{Obj}
 use Rattle.obj_region.specs.declared.object.Obj.TheVariants as obj
 use Rattle.machine_rules.specs.declared.item.Catch.TheVariants.{Handle, Pass}
 use Rattle.machine_rules.specs.declared.item.Item.{Item}
 use Rattle.machine_rules.specs.declared.item.Item.TheVariants as i
 use Rattle.machine_rules.specs.declared.frame.Var.{Var}
 use Rattle.machine_rules.specs.declared.frame.Frame.{Frame}
-use Rattle.machine_rules.specs.declared.act.Act.{Act}
 use Rattle.machine_rules.specs.declared.act.Act.TheVariants as act
-use Rattle.machine_rules.specs.Examples.{at, begins, did, frame, holding, local, over, routine, says, shown, signals_bad, text, var, world}
-use Rattle.machine_rules.specs.Row.{World, bare_world, entry, start}
-use Rattle.machine_rules.specs.Runs.{Ran, run}
+use Rattle.machine_rules.specs.Examples.{at, begins, did, frame, holding, local, over, says, shown, signals_bad, text, var, world}
+use Rattle.machine_rules.specs.Row.{World, entry}
+use Rattle.machine_rules.specs.Runs.{run}
 use Rattle.machine_rules.proofs.Runs.{run_on}
 use Rattle.machine_rules.proofs.WorkedPrograms.{text_steps}
 use Rattle.clu_eval.specs.Programs.{arm_a, arm_b, by_tag, choice, code_shown, counter_shown, failed, fails, get, leaving, make, n, other, passes, passing, shows_text, strings, tags}

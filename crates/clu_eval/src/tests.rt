@@ -243,15 +243,17 @@ fn too_late(alloc: Global) -> Result<String, Memory> {
 }
 
 fn handled(alloc: Global) -> Result<String, Memory> {
+    let sig = late(alloc)?;
     let body = one(alloc, tried(alloc)?)?;
     let others = one(alloc, adds(alloc)?)?;
-    run_raised(alloc, body, others, 7, late(alloc)?, 11)
+    run_raised(alloc, body, others, 7, sig, 11)
 }
 
 fn dies(alloc: Global) -> Result<String, Memory> {
+    let sig = late(alloc)?;
     let body = one(alloc, maybe(alloc)?)?;
     let others = one(alloc, adds(alloc)?)?;
-    run_raised(alloc, body, others, 6, late(alloc)?, 6)
+    run_raised(alloc, body, others, 6, sig, 6)
 }
 
 #[test]

@@ -5,4 +5,4 @@ use Rattle.clu_eval.proofs.Runnable.{dies}
 use Rattle.clu_eval.proofs.tests.dies.Goals as goal
 
 pub run_raised-requires : goal.run_raised-requires
-run_raised-requires c = dies _ _ _ (c.in_ok-body.ensures ∙ ap (λ (stmt : Stmt). stmt ∷ []) c.in_ok-maybe.ensures) (c.in_ok-others.ensures ∙ ap (λ (r : Routine). r ∷ []) c.in_ok-adds.ensures) c.in_ok-late.ensures
+run_raised-requires c = dies _ _ _ (c.in_ok-body.ensures ∙ ap (λ (stmt : Stmt). stmt ∷ []) c.in_ok-maybe.ensures) (c.in_ok-others.ensures ∙ ap (λ (r : Routine). r ∷ []) c.in_ok-adds.ensures) c.in_ok-sig.ensures

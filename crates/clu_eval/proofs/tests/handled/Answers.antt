@@ -5,4 +5,4 @@ use Rattle.clu_eval.proofs.Runnable.{handled}
 use Rattle.clu_eval.proofs.tests.handled.Goals as goal
 
 pub run_raised-requires : goal.run_raised-requires
-run_raised-requires c = handled _ _ _ (c.in_ok-body.ensures ∙ ap (λ (stmt : Stmt). stmt ∷ []) c.in_ok-tried.ensures) (c.in_ok-others.ensures ∙ ap (λ (r : Routine). r ∷ []) c.in_ok-adds.ensures) c.in_ok-late.ensures
+run_raised-requires c = handled _ _ _ (c.in_ok-body.ensures ∙ ap (λ (stmt : Stmt). stmt ∷ []) c.in_ok-tried.ensures) (c.in_ok-others.ensures ∙ ap (λ (r : Routine). r ∷ []) c.in_ok-adds.ensures) c.in_ok-sig.ensures

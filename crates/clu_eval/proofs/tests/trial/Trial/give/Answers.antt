@@ -1,5 +1,5 @@
 use Rattle.clu_eval.specs.Examples.{standing}
-use Rattle.clu_eval.proofs.Trials.{given_goes_on, given_is}
+use Rattle.clu_eval.proofs.Trials.{given_goes_on}
 use Rattle.clu_eval.proofs.tests.trial.Trial.give.Goals as goal
 
 pub give-requires : goal.give-requires
