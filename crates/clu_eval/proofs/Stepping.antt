@@ -1,5 +1,5 @@
 -- A run goes on behind each of its steps.
-use Rattle.std.proofs.Common.{◌≡◌, ℕ, suc, ◌<◌, ◌≤◌, List, Option, Some, None, IsSome, refl, subst, arith}
+use Rattle.std.proofs.Common.{◌≡◌, ℕ, suc, ◌<◌, List, Option, Some, None, refl, arith}
 use Rattle.std.specs.Prelude.{◌-◌, ◌+◌}
 use Rattle.clu_tree.specs.declared.value.Addr.{Addr}
 use Rattle.clu_tree.specs.declared.value.Value.{Value}
@@ -9,12 +9,8 @@ use Rattle.eval_objects.specs.Seen.{took}
 use Rattle.machine_rules.specs.declared.frame.Frame.{Frame}
 use Rattle.machine_rules.specs.declared.act.Act.{Act}
 use Rattle.machine_rules.specs.Row.{Next, row}
-use Rattle.machine_rules.specs.Runs.{Ran, after, begun, run, stepping, vars_after}
+use Rattle.machine_rules.specs.Runs.{Ran, after, begun, run, vars_after}
 use Rattle.clu_eval.specs.Examples.{Standing, end_of, standing, stepped}
-
-stepping_some : (o : Option Next) (go : Next → Option Ran) → IsSome (end_of (stepping o go)) → IsSome o
-stepping_some None go h = h
-stepping_some (Some next) go h = refl
 
 -- what stands at the end doesn't show the step before
 begun_end : (next : Next) (o : Option Ran) → end_of (begun next o) ≡ end_of o
@@ -24,12 +20,7 @@ begun_end next (Some ran) = refl
 one_more : (n step : ℕ) → step < n → n - step ≡ suc (n - (step + 1))
 one_more n step more = omega arith
 
--- a run of some steps begins with a row
-pub row_there : (last step : ℕ) (at : Standing) → step < last → IsSome (stepped (last - step) at) → IsSome (row at.world at.frames)
-row_there last step at more h =
-    stepping_some (row at.world at.frames) _ (subst (λ (n : ℕ). IsSome (stepped n at)) (one_more last step more) h)
-
--- and goes on with what the row leaves
+-- a run of some steps goes on with what its first row leaves
 pub goes_on : (last step : ℕ) (p : Program) (fs : List Frame) (objects : Store) (vars : List (Option Value)) (left : List Addr) (does : Act) (store : Store) (frames : List Frame) →
     step < last → row (standing p fs objects vars).world fs ≡ took left does store frames →
     stepped (last - step) (standing p fs objects vars) ≡ stepped (last - (step + 1)) (standing p frames store (vars_after does vars))
@@ -38,9 +29,3 @@ goes_on last step p fs objects vars left does store frames more e =
     let at : Standing = standing p fs objects vars in
     let next : Next = record { left = left; act = does; store = store; frames = frames } in
     rw (one_more last step more, e) (begun_end next (run n (after next at.world) frames))
-
--- no step is left
-pub at_end : (last step : ℕ) (at : Standing) → last ≤ step → stepped (last - step) at ≡ Some at
-at_end last step at h =
-    let none : last - step ≡ 0 = omega arith in
-    rw none refl

@@ -1,15 +1,11 @@
 -- What a test asks of a run is there for each of its parts.
 use Rattle.std.proofs.Common.{◌≡◌, ℕ, List, [], Option, Some, None, IsSome, ◌∷◌, refl, subst, arith}
 use Rattle.std.specs.Prelude.{◌-◌, ◌≢◌}
-use Rattle.clu_tree.specs.declared.value.Addr.{Addr}
 use Rattle.clu_tree.specs.declared.value.Sig.{Sig}
 use Rattle.clu_tree.specs.declared.value.Value.{Value}
 use Rattle.clu_tree.specs.declared.program.Program.{Program}
-use Rattle.eval_objects.specs.Seen.{took}
-use Rattle.machine_rules.specs.declared.act.Act.{Act}
 use Rattle.machine_rules.specs.declared.frame.Frame.{Frame}
-use Rattle.machine_rules.specs.Row.{World, Next, give, raise}
-use Rattle.machine_rules.specs.Runs.{after, vars_after}
+use Rattle.machine_rules.specs.Row.{World, Next, raise}
 use Rattle.clu_eval.specs.Examples.{Standing, begins, by, given, given_in, going, raised, raised_in, ran, ran_on, stepped}
 
 going_some : (o : Option Standing) (go : Standing → Option Standing) → IsSome (going o go) → IsSome o
@@ -71,13 +67,6 @@ raised_in_goes_on sig w (f ∷ fs) h = cons_is_some f fs
 pub raised_goes_on : (sig : Sig) (at : Standing) → IsSome (raised sig at) → at.frames ≢ []
 raised_goes_on sig at h = raised_in_goes_on sig at.world at.frames h
 
-given_in_is : (v : Value) (w : World) (fs : List Frame) → fs ≢ [] → given_in v w fs ≡ Some (record { world = w; frames = give v fs })
-given_in_is v w [] h = absurd (h refl)
-given_in_is v w (f ∷ fs) h = refl
-
-pub given_is : (v : Value) (at : Standing) (frames : List Frame) → at.frames ≢ [] → frames ≡ give v at.frames → given v at ≡ Some (record { world = at.world; frames = frames })
-given_is v at frames h e = rw e (given_in_is v at.world at.frames h)
-
 by_some : (w : World) (o : Option Next) → IsSome (by w o) → IsSome o
 by_some w None h = h
 by_some w (Some next) h = refl
@@ -88,11 +77,3 @@ raised_in_row sig w (f ∷ fs) h = by_some w (raise w sig (f ∷ fs)) h
 
 pub raised_row : (sig : Sig) (at : Standing) → IsSome (raised sig at) → IsSome (raise at.world sig at.frames)
 raised_row sig at h = raised_in_row sig at.world at.frames h
-
-raised_in_is : (sig : Sig) (w : World) (fs : List Frame) (next : Next) → fs ≢ [] → raise w sig fs ≡ Some next → raised_in sig w fs ≡ Some (record { world = after next w; frames = next.frames })
-raised_in_is sig w [] next h e = absurd (h refl)
-raised_in_is sig w (f ∷ fs) next h e = rw e refl
-
-pub raised_is : (sig : Sig) (at : Standing) (left : List Addr) (does : Act) (frames : List Frame) → at.frames ≢ [] → raise at.world sig at.frames ≡ took left does at.world.store frames →
-    raised sig at ≡ Some (record { world = record at.world { vars = vars_after does at.world.vars }; frames = frames })
-raised_is sig at left does frames h e = raised_in_is sig at.world at.frames (record { left = left; act = does; store = at.world.store; frames = frames }) h e
