@@ -10,8 +10,6 @@ mod literals;
 pub mod node;
 mod operation;
 mod reader;
-#[cfg(test)]
-mod tests;
 mod types;
 
 pub use cursor::Cursor;

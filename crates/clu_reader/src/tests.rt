@@ -1,3 +1,4 @@
+mod exprs;
 mod nesting;
 mod programs;
 mod show;
@@ -275,7 +276,7 @@ fn reads_each_statement(rt: HostRuntime) -> Result<(), Fail> {
 
 #[test]
 fn looks_ahead_behind_brackets(rt: HostRuntime) -> Result<(), Fail> {
-    let table: [(&[u8], Result<(), u32>); 27] = [
+    let table: [(&[u8], Result<(), u32>); 33] = [
         (b"y := y\n(x).f := 2", Ok(())),
         (b"y := y (x).f := 2", Ok(())),
         (b"y := y (x)[1].g := 2", Ok(())),
@@ -303,6 +304,12 @@ fn looks_ahead_behind_brackets(rt: HostRuntime) -> Result<(), Fail> {
         (b"y := y (x)\n(z)", Err(3)),
         (b"return (a)\n.b", Err(3)),
         (b"y := y (x].f := 1", Err(2)),
+        (b"y := a + f (x).g := 1", Ok(())),
+        (b"y := (f) (x).g := 1", Ok(())),
+        (b"y := f (x).a + b := 1", Err(2)),
+        (b"y := f (x).1 := 1", Err(2)),
+        (b"y := t$f (x).g := 1", Err(2)),
+        (b"y := f (x).a[{(])].b := 1", Err(2)),
     ];
     for (text, wanted) in table {
         let read = statement(&rt, rt.alloc(), text)?;
@@ -735,5 +742,61 @@ fn names_the_line_where_reading_fails(rt: HostRuntime) -> Result<(), Fail> {
         let read = read_text(&rt, rt.alloc(), text)?;
         assert_eq!(rt; read, Err(line), "{}", text.escape_ascii());
     }
+    Ok(())
+}
+
+/// Statements of two lines, which fail on the second.
+#[test]
+fn names_the_line_where_a_statement_fails(rt: HostRuntime) -> Result<(), Fail> {
+    let table: [&[u8]; 42] = [
+        b"x := 1\nx",
+        b"x:\n:= 1",
+        b"x\n.f",
+        b"f(1\n]",
+        b"\n(f(x))",
+        b"once f\nat 1",
+        b"maybe f() at 1\n",
+        b"put_line\nx",
+        b"fork f\n",
+        b"signal\n(1)",
+        b"if 1\ndo end",
+        b"if 1 then else\nelseif 2 then end",
+        b"while 1\nthen end",
+        b"for i: int in int$\nup(1, 2) do end",
+        b"for i\nin x do end",
+        b"tagcase x tag\n(y: int): end",
+        b"tagcase x others:\ntag a: end",
+        b"begin x := 1\nelse",
+        b"x := 1 except others:\nwhen a: end",
+        b"x := 1 except when a:\nx",
+        b"x := 1 resignal\n",
+        b"x :=\n)",
+        b"x := f(\n, 1)",
+        b"x := t${x\n1}",
+        b"x := t$[1\n",
+        b"x := up\na",
+        b"x := now(\n1)",
+        b"x := int\na",
+        b"x := t$\n1",
+        b"x := t$f\n1",
+        b"x := a.\n1",
+        b"x := a[1\n)",
+        b"x := a +\n",
+        b"x := a +\n* b",
+        b"x := (a\n]",
+        b"x := ((a)\n",
+        b"x:\nnil",
+        b"x: array\nt",
+        b"x: array[\n]",
+        b"x: record[x: int,\n]",
+        b"x: record[x\nint]",
+        b"x: oneof[x: int\ny: int]",
+    ];
+    for text in table {
+        let read = statement(&rt, rt.alloc(), text)?;
+        assert_eq!(rt; read, Err(3), "{}", text.escape_ascii());
+    }
+    let fault = format!(in rt.alloc(); "{}", ReadFault::Syntax(3))?;
+    assert_eq!(rt; fault.as_str(), "no program: line 3");
     Ok(())
 }

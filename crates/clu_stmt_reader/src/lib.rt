@@ -12,8 +12,6 @@ mod reader;
 mod remote;
 mod simple;
 mod sized;
-#[cfg(test)]
-mod tests;
 
 pub use bodies::body;
 pub use follow::names;

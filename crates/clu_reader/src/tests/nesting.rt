@@ -21,7 +21,7 @@ fn nested(
 
 #[test]
 fn nests_200_deep(rt: HostRuntime) -> Result<(), Fail> {
-    let ways: [(&[u8], &[u8], &[u8], &[u8], usize); 60] = [
+    let ways: [(&[u8], &[u8], &[u8], &[u8], usize); 62] = [
         (b"x := ", b"-", b"1", b"", 198),
         (b"x := ", b"~", b"a", b"", 198),
         (b"x := 1", b"+1", b"", b"", 198),
@@ -36,6 +36,8 @@ fn nests_200_deep(rt: HostRuntime) -> Result<(), Fail> {
         (b"x := ", b"t${f: ", b"1", b"}", 198),
         (b"x := ", b"(a = ", b"a", b")", 198),
         (b"x := ", b"(a ~= ", b"a", b")", 99),
+        (b"x := ", b"(a * ", b"a", b")", 198),
+        (b"x := ", b"(", b"a", b").b", 198),
         (b"x: ", b"array[", b"int", b"]", 198),
         (b"x: ", b"record[a: ", b"int", b"]", 198),
         (b"x: ", b"oneof[a: ", b"int", b"]", 198),

@@ -1,22 +1,34 @@
 //! Trees as text: each part in its place, and `@` with the line of each node that has one.
 
+mod exprs;
+mod shapes;
+
 use clu_tree::{
     Arm, Cluster, Expr, Handlers, Initial, Iter, Listed, Named, NodeDecl, NodePart, NodeVar,
-    Program, Remote, Routine, Shape, Stmt, TagArm, Target, Text, Value, When,
+    Program, Remote, Routine, Stmt, TagArm, Target, Text, Value, When,
 };
 use std::alloc::{AllocError, Global};
+
+/// Whether the lines of nodes are shown, as `a@1`.
+#[derive(Clone, Copy)]
+pub enum Style {
+    Plain,
+    Lines,
+}
 
 /// A text that grows.
 #[derive(Drop)]
 pub struct Shown {
     alloc: Global,
+    style: Style,
     bytes: Vec<u8>,
 }
 
 impl Shown {
-    pub fn new(alloc: Global) -> Shown {
+    pub fn new(alloc: Global, style: Style) -> Shown {
         Shown {
             alloc,
+            style,
             bytes: Vec::new(alloc),
         }
     }
@@ -44,8 +56,13 @@ impl Shown {
     }
 
     fn line(&mut self, line: u32) -> Result<(), AllocError> {
-        let text = format!(in self.alloc; "@{line}")?;
-        self.put(text.as_bytes())
+        match self.style {
+            Style::Plain => Ok(()),
+            Style::Lines => {
+                let text = format!(in self.alloc; "@{line}")?;
+                self.put(text.as_bytes())
+            }
+        }
     }
 
     fn number(&mut self, number: i64) -> Result<(), AllocError> {
@@ -71,28 +88,6 @@ impl Shown {
         }
     }
 
-    #[cycle(shape)]
-    fn shape(&mut self, shape: &Shape) -> Result<(), AllocError> {
-        match shape {
-            Shape::Int => self.put(b"int"),
-            Shape::Str => self.put(b"string"),
-            Shape::Cvt => self.put(b"cvt"),
-            Shape::Name(name) => self.name(name),
-            Shape::Arr(element) => {
-                self.put(b"array[")?;
-                self.shape(element.get())?;
-                self.put(b"]")
-            }
-            _ => self.put(b"?"),
-        }
-    }
-
-    fn named(&mut self, named: &Named) -> Result<(), AllocError> {
-        self.name(&named.name)?;
-        self.put(b": ")?;
-        self.shape(&named.shape)
-    }
-
     fn variable(&mut self, variable: &Option<Named>) -> Result<(), AllocError> {
         match variable {
             None => Ok(()),
@@ -102,41 +97,6 @@ impl Shown {
                 self.put(b")")
             }
         }
-    }
-
-    /// Names, numbers and calls alone: the other expressions are for the crate that reads them.
-    #[cycle(expr)]
-    fn expr(&mut self, expr: &Expr) -> Result<(), AllocError> {
-        match expr {
-            Expr::Literal(value, line) => {
-                self.value(value)?;
-                self.line(*line)
-            }
-            Expr::Name(name, line, _) => {
-                self.name(name)?;
-                self.line(*line)
-            }
-            Expr::Call(name, args, line, _) => {
-                self.name(name)?;
-                self.args(args.as_slice())?;
-                self.line(*line)
-            }
-            _ => self.put(b"?"),
-        }
-    }
-
-    #[cycle(expr)]
-    fn args(&mut self, args: &[Expr]) -> Result<(), AllocError> {
-        let mut between: &[u8] = b"(";
-        for arg in args {
-            self.put(between)?;
-            self.expr(arg)?;
-            between = b", ";
-        }
-        if args.is_empty() {
-            self.put(b"(")?;
-        }
-        self.put(b")")
     }
 
     /// A part that may be there, behind these bytes.

@@ -1,6 +1,6 @@
 //! The trees that texts read as.
 
-use super::show::Shown;
+use super::show::{Shown, Style};
 use super::{HELLO, repeated};
 use crate::{no_text_has_two_trees, read_program};
 use clu_text::tokens;
@@ -48,7 +48,7 @@ fn shown(rt: &impl Abort, alloc: Global, text: &[u8]) -> Result<Shown, Fail> {
     assert!(rt; text.len() <= 1048576);
     let found = tokens(alloc, text)?;
     let program = read_program(alloc, text, found.as_slice())?;
-    let mut shown = Shown::new(alloc);
+    let mut shown = Shown::new(alloc, Style::Lines);
     shown.program(&program)?;
     Ok(shown)
 }
@@ -121,7 +121,7 @@ fn reads_programs_as_their_trees(rt: HostRuntime) -> Result<(), Fail> {
         (b"a\n= int b = array[c]", "a = int@1; b = array[c]@2; "),
         (
             b"nodevar a: t\nnodevar\nb: int := -5 nodevar c: lock := lock$create()\nnodevar d: semaphore := semaphore$create(3) nodevar e: array[t] := array[u]$new()",
-            "nodevar a: t@1; nodevar b: int := -5@2; nodevar c: ? := lock@3; nodevar d: ? := semaphore 3@4; nodevar e: array[t] := none of u@4; ",
+            "nodevar a: t@1; nodevar b: int := -5@2; nodevar c: lock := lock@3; nodevar d: semaphore := semaphore 3@4; nodevar e: array[t] := none of u@4; ",
         ),
         (
             b"p = proc (a: int, b: t)\nreturns (string) signals (e, f (u)) return (a) end p\nq =\nproc () end q",
