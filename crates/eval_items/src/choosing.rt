@@ -1,6 +1,7 @@
 //! Items that take a bool and choose.
 
-ghost use Rattle.std.specs.Prelude.{◌≡◌, IfOk, IsSome, false, true};
+ghost use Rattle.std.specs.Prelude.{◌≡◌, ◌∷◌, ◌++◌, IfOk, IsSome, OnOk, false, map, true};
+ghost use Rattle.clu_tree.specs.declared.tree.Stmt.TheVariants.{While as while_of};
 ghost use Rattle.machine_rules.specs.Row as rule;
 ghost use Rattle.machine_rules.specs.World.{World, gives};
 ghost use Rattle.machine_rules.specs.declared.item.Item.TheVariants as item;
@@ -8,7 +9,7 @@ ghost use Rattle.machine_rules.specs.declared.item.Item.TheVariants as item;
 use crate::placing::{evals, evals_then};
 use clu_tree::copies::copy_stmts;
 use clu_tree::{Arm, Expr, Stmt, Value};
-use eval_frames::{adds, goes, puts};
+use eval_frames::{adds, goes, put_body, puts};
 use machine_rules::{Frame, Item, Stack, StepEnd};
 use sqlite_items::Items;
 use std::alloc::{AllocError, Global};
@@ -134,7 +135,23 @@ fn loops(
 ) -> Result<StepEnd, AllocError>
     ensures { IfOk result (λ end. (w : World) → rule.loops w frame frames.old frame.work frame.values test body line true ≡ gives w end.left end.act frames.new) }
 {
-    let round = copy_stmts(alloc, body.as_slice())?;
-    frame.work.push(Item::Exec(Stmt::While(test, body, line)))?;
-    puts(alloc, frames, frame, round)
+    put_round(alloc, &mut frame.work, test, body, line)?;
+    goes(alloc, frames, frame)
+}
+
+/// Puts the statement again before the work, and its body before it.
+fn put_round(
+    alloc: Global,
+    work: &mut Stack<Item>,
+    test: Expr,
+    body: Items<Stmt>,
+    line: u32,
+) -> Result<(), AllocError>
+    ensures { OnOk result (work.new ≡ map item.Exec body ++ item.Exec (while_of test body line) ∷ work.old) }
+{
+    let round = copy_stmts(alloc, body.as_slice());
+    let again = work.push(Item::Exec(Stmt::While(test, body, line)));
+    let before = put_body(work, round?);
+    again?;
+    before
 }

@@ -1,6 +1,6 @@
 //! The rounds of a `for` over numbers.
 
-ghost use Rattle.std.specs.Prelude.{◌≡◌, ◌∷◌, ◌+ℤ◌, ◌<ℤ◌, IfOk, IsSome, IsTrue, int_lt, pos};
+ghost use Rattle.std.specs.Prelude.{◌≡◌, ◌∷◌, ◌+ℤ◌, ◌<ℤ◌, IfOk, IsSome, IsTrue, OnOk, int_lt, pos};
 ghost use Rattle.clu_tree.specs.declared.value.Value.TheVariants as value;
 ghost use Rattle.machine_rules.specs.Row as rule;
 ghost use Rattle.machine_rules.specs.World.{World, gives};
@@ -87,10 +87,32 @@ fn one_of_more(
     requires { n <ℤ last }
     ensures { IfOk result (λ end. (w : World) → rule.begins w frame frames.old (item.Next name shape body (n +ℤ pos 1) last ∷ frame.work) frame.values name shape (value.Int n) body ≡ gives w end.left end.act frames.new) }
 {
-    let next_name = name.copy(alloc)?;
-    let next_shape = copy_shape(alloc, &shape)?;
-    let next_body = copy_stmts(alloc, body.as_slice())?;
-    let next = Item::Next(next_name, next_shape, next_body, n + 1, last);
-    frame.work.push(next)?;
+    put_next(
+        alloc,
+        &mut frame.work,
+        &name,
+        &shape,
+        body.as_slice(),
+        n + 1,
+        last,
+    )?;
     begins(alloc, frames, frame, name, shape, Value::Int(n), body)
+}
+
+/// Puts the rounds from the number `n` on before the work.
+fn put_next(
+    alloc: Global,
+    work: &mut Stack<Item>,
+    name: &Text,
+    shape: &Shape,
+    body: &[Stmt],
+    n: i64,
+    last: i64,
+) -> Result<(), AllocError>
+    ensures { OnOk result (work.new ≡ item.Next name.now shape.now body.now n last ∷ work.old) }
+{
+    let name = name.copy(alloc)?;
+    let shape = copy_shape(alloc, shape)?;
+    let body = copy_stmts(alloc, body)?;
+    work.push(Item::Next(name, shape, body, n, last))
 }

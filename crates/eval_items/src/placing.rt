@@ -11,6 +11,33 @@ use machine_rules::{Frame, Item, Stack, StepEnd};
 use sqlite_items::Items;
 use std::alloc::{AllocError, Global};
 
+// Nothing large is held while a push may fail: each item is handed over before the first answer is looked at.
+
+/// Puts two items before the work, in this order.
+pub fn put_two(work: &mut Stack<Item>, first: Item, second: Item) -> Result<(), AllocError>
+    ensures { OnOk result (work.new ≡ first ∷ second ∷ work.old) }
+{
+    let behind = work.push(second);
+    let before = work.push(first);
+    behind?;
+    before
+}
+
+/// Puts three items before the work, in this order.
+pub fn put_three(
+    work: &mut Stack<Item>,
+    first: Item,
+    second: Item,
+    third: Item,
+) -> Result<(), AllocError>
+    ensures { OnOk result (work.new ≡ first ∷ second ∷ third ∷ work.old) }
+{
+    let behind = work.push(third);
+    let before = put_two(work, first, second);
+    behind?;
+    before
+}
+
 /// Evaluates an expression before the work.
 pub fn evals(
     alloc: Global,
@@ -34,8 +61,8 @@ pub fn evals_then(
 ) -> Result<StepEnd, AllocError>
     ensures { IfOk result (λ end. (w : World) → rule.evals w frame frames.old expr (then ∷ frame.work) ≡ gives w end.left end.act frames.new) }
 {
-    frame.work.push(then)?;
-    evals(alloc, frames, frame, expr)
+    put_two(&mut frame.work, Item::Eval(expr), then)?;
+    goes(alloc, frames, frame)
 }
 
 /// Evaluates two operands before this item.
@@ -49,25 +76,8 @@ pub fn evals_two(
 ) -> Result<StepEnd, AllocError>
     ensures { IfOk result (λ end. (w : World) → rule.operands w frame frames.old frame.work (a ∷ b ∷ []) (Some then) ≡ gives w end.left end.act frames.new) }
 {
-    frame.work.push(then)?;
-    frame.work.push(Item::Eval(b))?;
-    evals(alloc, frames, frame, a)
-}
-
-/// Evaluates three operands before this item.
-pub fn evals_three(
-    alloc: Global,
-    frames: &mut Stack<Frame>,
-    mut frame: Frame,
-    a: Expr,
-    b: Expr,
-    c: Expr,
-    then: Item,
-) -> Result<StepEnd, AllocError>
-    ensures { IfOk result (λ end. (w : World) → rule.operands w frame frames.old frame.work (a ∷ b ∷ c ∷ []) (Some then) ≡ gives w end.left end.act frames.new) }
-{
-    frame.work.push(then)?;
-    evals_two(alloc, frames, frame, a, b, Item::Eval(c))
+    put_three(&mut frame.work, Item::Eval(a), Item::Eval(b), then)?;
+    goes(alloc, frames, frame)
 }
 
 /// Puts expressions before the work, to be evaluated in order.

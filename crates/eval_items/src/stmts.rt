@@ -1,19 +1,19 @@
 //! A statement is begun.
 
-ghost use Rattle.std.specs.Prelude.{◌≡◌, ◌∷◌, ◌++◌, [], None, Some, IfOk, IsSome};
+ghost use Rattle.std.specs.Prelude.{◌≡◌, ◌∷◌, ◌++◌, [], None, Some, IfOk, IsSome, OnOk};
 ghost use Rattle.clu_tree.specs.declared.op.Op.TheVariants as op;
 ghost use Rattle.clu_tree.specs.declared.tree.Stmt.{out-Stmt};
-ghost use Rattle.machine_rules.specs.Frames.{with};
+ghost use Rattle.machine_rules.specs.Frames.{declare as rule_declare, with};
 ghost use Rattle.machine_rules.specs.Row as rule;
 ghost use Rattle.machine_rules.specs.World.{World, gives, goes as goes_on};
 ghost use Rattle.machine_rules.specs.declared.item.Item.TheVariants as item;
 
 use crate::meanings::{asking_maybe, asking_once, receiving, setting, spawning, writing};
-use crate::placing::{evals_then, evals_three, evals_two, operand, operands, two_operands};
+use crate::placing::{evals_then, evals_two, operand, operands, put_three, put_two, two_operands};
 use clu_tree::copies::copy_expr;
 use clu_tree::{Expr, Iter, Meant, Op, Remote, Shape, Sig, Stmt, Target, Text, Value};
 use eval_frames::{declare, ends, goes, leaves, puts, unwind};
-use machine_rules::{Catch, Frame, Item, Stack, StepEnd};
+use machine_rules::{Catch, Frame, Item, Stack, StepEnd, Var};
 use sqlite_items::Items;
 use std::alloc::{AllocError, Global};
 
@@ -151,9 +151,24 @@ fn declares_set(
 ) -> Result<StepEnd, AllocError>
     ensures { IfOk result (λ end. (w : World) → rule.declares w frame frames.old frame.work name shape (Some first) ≡ gives w end.left end.act frames.new) }
 {
-    let declared = name.copy(alloc)?;
-    declare(&mut frame.vars, declared, shape, None)?;
-    evals_then(alloc, frames, frame, first, Item::Assign(name))
+    let declared = declare_copied(alloc, &mut frame.vars, &name, shape);
+    let put = put_two(&mut frame.work, Item::Eval(first), Item::Assign(name));
+    declared?;
+    put?;
+    goes(alloc, frames, frame)
+}
+
+/// Declares a variable of this name without a value.
+fn declare_copied(
+    alloc: Global,
+    vars: &mut Items<Var>,
+    name: &Text,
+    shape: Shape,
+) -> Result<(), AllocError>
+    ensures { OnOk result (vars.new ≡ rule_declare name.now shape None vars.old) }
+{
+    let name = name.copy(alloc)?;
+    declare(vars, name, shape, None)
 }
 
 /// The row of an assignment.
@@ -207,16 +222,16 @@ fn stores(
 ) -> Result<StepEnd, AllocError>
     ensures { IfOk result (λ end. (w : World) → rule.operands w frame frames.old (item.Discard ∷ frame.work) (list ∷ place ∷ value ∷ []) (Some (item.Apply op.ArrStore)) ≡ gives w end.left end.act frames.new) }
 {
-    frame.work.push(Item::Discard)?;
-    evals_three(
-        alloc,
-        frames,
-        frame,
-        list,
-        place,
-        value,
-        Item::Apply(Op::ArrStore),
-    )
+    let behind = put_two(&mut frame.work, Item::Apply(Op::ArrStore), Item::Discard);
+    let before = put_three(
+        &mut frame.work,
+        Item::Eval(list),
+        Item::Eval(place),
+        Item::Eval(value),
+    );
+    behind?;
+    before?;
+    goes(alloc, frames, frame)
 }
 
 /// The row of a remote call, whose answer this item takes.
@@ -347,15 +362,32 @@ fn signals(
 fn begins_while(
     alloc: Global,
     frames: &mut Stack<Frame>,
-    frame: Frame,
+    mut frame: Frame,
     test: Expr,
     body: Items<Stmt>,
     line: u32,
 ) -> Result<StepEnd, AllocError>
     ensures { IfOk result (λ end. (w : World) → rule.evals w frame frames.old test (item.Loop test body line ∷ frame.work) ≡ gives w end.left end.act frames.new) }
 {
-    let first = copy_expr(alloc, &test)?;
-    evals_then(alloc, frames, frame, first, Item::Loop(test, body, line))
+    put_loop(alloc, &mut frame.work, test, body, line)?;
+    goes(alloc, frames, frame)
+}
+
+/// Puts a loop before the work, and its first test before it.
+fn put_loop(
+    alloc: Global,
+    work: &mut Stack<Item>,
+    test: Expr,
+    body: Items<Stmt>,
+    line: u32,
+) -> Result<(), AllocError>
+    ensures { OnOk result (work.new ≡ item.Eval test ∷ item.Loop test body line ∷ work.old) }
+{
+    let first = copy_expr(alloc, &test);
+    let behind = work.push(Item::Loop(test, body, line));
+    let before = work.push(Item::Eval(first?));
+    behind?;
+    before
 }
 
 /// The row of a `for`.

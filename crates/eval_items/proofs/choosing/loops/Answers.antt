@@ -4,4 +4,4 @@ use Rattle.eval_frames.proofs.Rows.{through}
 use Rattle.eval_items.proofs.choosing.loops.Goals as goal
 
 pub returns : goal.returns
-returns c = through _ _ _ _ c.puts.ensures (λ w. rw (c.in_ok-push.ensures.ok, c.in_ok-round.ensures, c.as_slice.ensures, rolls-While) refl)
+returns c = through _ _ _ _ c.goes.ensures (λ w. rw (c.in_ok-put_round.ensures, rolls-While) refl)

@@ -1,4 +1,4 @@
-use Rattle.std.proofs.Common.{◌≡◌, ◌∷◌, ◌∙◌, ◌+ℤ◌, pos, rules}
+use Rattle.std.proofs.Common.{◌≡◌, ◌∷◌, ◌+ℤ◌, pos, rules}
 use Rattle.machine_rules.specs.declared.item.Item.TheVariants as item
 use Rattle.eval_items.proofs.Rounds.{same_round}
 use Rattle.eval_frames.proofs.Rows.{through}
@@ -6,6 +6,6 @@ use Rattle.eval_items.proofs.looping.one_of_more.Goals as goal
 
 pub returns : goal.returns
 returns c =
-    let e : c.push.new.self ≡ item.Next c.args.name c.args.shape c.args.body (c.args.n +ℤ pos 1) c.args.last ∷ c.args.frame.work =
-    same_round _ _ _ _ _ _ _ _ _ _ _ _ c.in_ok-next_name.ensures c.in_ok-next_shape.ensures (c.in_ok-next_body.ensures ∙ c.as_slice.ensures) c.in_ok-push.ensures.ok (search rules) (search rules) in
+    let e : c.put_next.new.work ≡ item.Next c.args.name c.args.shape c.args.body (c.args.n +ℤ pos 1) c.args.last ∷ c.args.frame.work =
+    same_round _ _ _ _ _ _ _ _ _ _ _ _ (search rules) (search rules) c.as_slice.ensures c.in_ok-put_next.ensures (search rules) (search rules) in
     through _ _ _ _ c.begins.ensures (λ w. rw (← e) (search rules))

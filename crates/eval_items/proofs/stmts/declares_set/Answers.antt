@@ -1,6 +1,4 @@
 use Rattle.eval_items.proofs.stmts.declares_set.Goals as goal
 
 pub returns : goal.returns
-returns c =
-    let e = rw c.in_ok-declared.ensures at c.in_ok-declare.ensures in
-    rw (← e) c.evals_then.ensures
+returns c = rw (← c.in_ok-declared.ensures, ← c.in_ok-put.ensures) c.goes.ensures

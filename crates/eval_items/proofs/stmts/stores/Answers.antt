@@ -1,4 +1,4 @@
 use Rattle.eval_items.proofs.stmts.stores.Goals as goal
 
 pub returns : goal.returns
-returns c = rw (← c.in_ok-push.ensures.ok) c.evals_three.ensures
+returns c = rw (← c.in_ok-behind.ensures, ← c.in_ok-before.ensures) c.goes.ensures
