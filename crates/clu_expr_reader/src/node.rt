@@ -18,7 +18,7 @@ use std::alloc::{AllocError, Global};
 /// An expression, with the number of its levels.
 #[derive(Drop)]
 pub struct SizedExpr {
-    pub expr: Expr,
+    pub expr: Boxed<Expr>,
     pub height: u32,
     ghost nests: { height ≡ expr_nesting expr },
     ghost small: { height ≤ 200 },
@@ -58,7 +58,7 @@ impl SizedExprs {
     pub fn push(&mut self, last: SizedExpr) -> Result<(), AllocError>
         ensures { OnOk result (self.new.items ≡ self.old.items ++ last.expr ∷ []) }
     {
-        self.items.push(last.expr)?;
+        self.items.push(last.expr.into_inner())?;
         self.height = self.height.max(last.height);
         Ok(())
     }
@@ -82,7 +82,7 @@ impl SizedInits {
     {
         self.inits.push(FieldInit {
             name,
-            value: last.expr,
+            value: last.expr.into_inner(),
         })?;
         self.height = self.height.max(last.height);
         Ok(())
@@ -90,7 +90,13 @@ impl SizedInits {
 }
 
 /// The expression, which has so many levels, if those are at most `depth`.
-pub fn fit(cursor: &Cursor<'_>, depth: u32, expr: Expr, height: u32) -> Result<SizedExpr, ReadFault>
+pub fn fit(
+    alloc: Global,
+    cursor: &Cursor<'_>,
+    depth: u32,
+    expr: Expr,
+    height: u32,
+) -> Result<SizedExpr, ReadFault>
     requires nests { height ≡ expr_nesting expr }
     requires small { depth ≤ 200 }
     ensures { Gives (λ x. x.expr) result cursor.now (expr_within depth expr cursor.now) }
@@ -98,11 +104,13 @@ pub fn fit(cursor: &Cursor<'_>, depth: u32, expr: Expr, height: u32) -> Result<S
     if height > depth {
         return Err(ReadFault::Syntax(cursor.line()));
     }
+    let expr = Boxed::new(alloc, expr)?;
     Ok(SizedExpr { expr, height })
 }
 
 /// A literal, if `depth` allows its one level.
 pub fn literal(
+    alloc: Global,
     cursor: &Cursor<'_>,
     depth: u32,
     value: Value,
@@ -111,27 +119,45 @@ pub fn literal(
     requires { depth ≤ 200 }
     ensures { Gives (λ x. x.expr) result cursor.now (expr_within depth (Expr.Literal value line) cursor.now) }
 {
-    fit(cursor, depth, Expr::Literal(value, line), 1)
+    fit(alloc, cursor, depth, Expr::Literal(value, line), 1)
 }
 
 /// A name, if `depth` allows its one level.
-pub fn name(cursor: &Cursor<'_>, depth: u32, text: Text, line: u32) -> Result<SizedExpr, ReadFault>
+pub fn name(
+    alloc: Global,
+    cursor: &Cursor<'_>,
+    depth: u32,
+    text: Text,
+    line: u32,
+) -> Result<SizedExpr, ReadFault>
     requires { depth ≤ 200 }
     ensures { Gives (λ x. x.expr) result cursor.now (expr_within depth (Expr.Name text line Meant.Unknown) cursor.now) }
 {
-    fit(cursor, depth, Expr::Name(text, line, Meant::Unknown), 1)
+    fit(
+        alloc,
+        cursor,
+        depth,
+        Expr::Name(text, line, Meant::Unknown),
+        1,
+    )
 }
 
 /// `now()`, if `depth` allows its one level.
-pub fn now(cursor: &Cursor<'_>, depth: u32, line: u32) -> Result<SizedExpr, ReadFault>
+pub fn now(
+    alloc: Global,
+    cursor: &Cursor<'_>,
+    depth: u32,
+    line: u32,
+) -> Result<SizedExpr, ReadFault>
     requires { depth ≤ 200 }
     ensures { Gives (λ x. x.expr) result cursor.now (expr_within depth (Expr.Now line) cursor.now) }
 {
-    fit(cursor, depth, Expr::Now(line), 1)
+    fit(alloc, cursor, depth, Expr::Now(line), 1)
 }
 
 /// A call of a routine, if it has at most `depth` levels.
 pub fn call(
+    alloc: Global,
     cursor: &Cursor<'_>,
     depth: u32,
     name: Text,
@@ -143,11 +169,12 @@ pub fn call(
 {
     let height = 1 + args.height;
     let node = Expr::Call(name, args.items, line, Meant::Unknown);
-    fit(cursor, depth, node, height)
+    fit(alloc, cursor, depth, node, height)
 }
 
 /// `T$op(..)`, if it has at most `depth` levels.
 pub fn operation(
+    alloc: Global,
     cursor: &Cursor<'_>,
     depth: u32,
     of: SizedShape,
@@ -160,11 +187,12 @@ pub fn operation(
 {
     let height = 1 + of.height.max(args.height);
     let node = Expr::Op(of.shape, name, args.items, line, Meant::Unknown);
-    fit(cursor, depth, node, height)
+    fit(alloc, cursor, depth, node, height)
 }
 
 /// `T${..}`, if it has at most `depth` levels.
 pub fn record_of(
+    alloc: Global,
     cursor: &Cursor<'_>,
     depth: u32,
     of: SizedShape,
@@ -176,11 +204,12 @@ pub fn record_of(
 {
     let height = 1 + of.height.max(inits.height);
     let node = Expr::Record(of.shape, inits.inits, line, Meant::Unknown);
-    fit(cursor, depth, node, height)
+    fit(alloc, cursor, depth, node, height)
 }
 
 /// `T$[..]`, if it has at most `depth` levels.
 pub fn array_of(
+    alloc: Global,
     cursor: &Cursor<'_>,
     depth: u32,
     of: SizedShape,
@@ -192,7 +221,7 @@ pub fn array_of(
 {
     let height = 1 + of.height.max(items.height);
     let node = Expr::Array(of.shape, items.items, line, Meant::Unknown);
-    fit(cursor, depth, node, height)
+    fit(alloc, cursor, depth, node, height)
 }
 
 /// An operator before its operand, if it has at most `depth` levels.
@@ -208,8 +237,8 @@ pub fn unary(
     ensures { Gives (λ x. x.expr) result cursor.now (expr_within depth (Expr.Unary op of.expr line Meant.Unknown) cursor.now) }
 {
     let height = 1 + of.height;
-    let node = Expr::Unary(op, Boxed::new(alloc, of.expr)?, line, Meant::Unknown);
-    fit(cursor, depth, node, height)
+    let node = Expr::Unary(op, of.expr, line, Meant::Unknown);
+    fit(alloc, cursor, depth, node, height)
 }
 
 /// `up(..)`, if it has at most `depth` levels.
@@ -224,8 +253,8 @@ pub fn up(
     ensures { Gives (λ x. x.expr) result cursor.now (expr_within depth (Expr.Up of.expr line) cursor.now) }
 {
     let height = 1 + of.height;
-    let node = Expr::Up(Boxed::new(alloc, of.expr)?, line);
-    fit(cursor, depth, node, height)
+    let node = Expr::Up(of.expr, line);
+    fit(alloc, cursor, depth, node, height)
 }
 
 /// `down(..)`, if it has at most `depth` levels.
@@ -240,8 +269,8 @@ pub fn down(
     ensures { Gives (λ x. x.expr) result cursor.now (expr_within depth (Expr.Down of.expr line) cursor.now) }
 {
     let height = 1 + of.height;
-    let node = Expr::Down(Boxed::new(alloc, of.expr)?, line);
-    fit(cursor, depth, node, height)
+    let node = Expr::Down(of.expr, line);
+    fit(alloc, cursor, depth, node, height)
 }
 
 /// A field of an expression, if it has at most `depth` levels.
@@ -257,8 +286,8 @@ pub fn field(
     ensures { Gives (λ x. x.expr) result cursor.now (expr_within depth (Expr.Field of.expr name line Meant.Unknown) cursor.now) }
 {
     let height = 1 + of.height;
-    let node = Expr::Field(Boxed::new(alloc, of.expr)?, name, line, Meant::Unknown);
-    fit(cursor, depth, node, height)
+    let node = Expr::Field(of.expr, name, line, Meant::Unknown);
+    fit(alloc, cursor, depth, node, height)
 }
 
 /// An element of an expression, if it has at most `depth` levels.
@@ -274,17 +303,14 @@ pub fn index(
     ensures { Gives (λ x. x.expr) result cursor.now (expr_within depth (Expr.Index of.expr at.expr line Meant.Unknown) cursor.now) }
 {
     let height = 1 + of.height.max(at.height);
-    let of = Boxed::new(alloc, of.expr)?;
-    let node = Expr::Index(of, Boxed::new(alloc, at.expr)?, line, Meant::Unknown);
-    fit(cursor, depth, node, height)
+    let node = Expr::Index(of.expr, at.expr, line, Meant::Unknown);
+    fit(alloc, cursor, depth, node, height)
 }
 
-fn binary(alloc: Global, left: Expr, op: Infix, right: Expr, line: u32) -> Result<Expr, AllocError>
-    ensures { IfOk result (λ e. e ≡ Expr.Binary left op right line Meant.Unknown) }
+fn binary(left: Boxed<Expr>, op: Infix, right: Boxed<Expr>, line: u32) -> Expr
+    ensures { result ≡ Expr.Binary left op right line Meant.Unknown }
 {
-    let left = Boxed::new(alloc, left)?;
-    let right = Boxed::new(alloc, right)?;
-    Ok(Expr::Binary(left, op, right, line, Meant::Unknown))
+    Expr::Binary(left, op, right, line, Meant::Unknown)
 }
 
 /// Two operands with the symbol between them, if they have at most `depth` levels. `a ~= b` is `~(a = b)`, two levels.
@@ -303,14 +329,14 @@ pub fn join(
     let height = 1 + left.height.max(right.height);
     match key {
         Key::Differs => {
-            let equal = binary(alloc, left.expr, Infix::Equal, right.expr, line)?;
+            let equal = binary(left.expr, Infix::Equal, right.expr, line);
             let equal = Boxed::new(alloc, equal)?;
             let node = Expr::Unary(Prefix::Not, equal, line, Meant::Unknown);
-            fit(cursor, depth, node, height + 1)
+            fit(alloc, cursor, depth, node, height + 1)
         }
         other => {
-            let node = binary(alloc, left.expr, infix_of(other), right.expr, line)?;
-            fit(cursor, depth, node, height)
+            let node = binary(left.expr, infix_of(other), right.expr, line);
+            fit(alloc, cursor, depth, node, height)
         }
     }
 }

@@ -201,17 +201,17 @@ impl<F: Fn(Global, &mut Cursor<'_>, u32, u8) -> Result<SizedExpr, ReadFault>> Re
             Some(Lexeme::Key(Key::LBrace, _)) => {
                 cursor.skip();
                 let inits = self.braced(cursor)?;
-                node::record_of(cursor, self.depth, of, inits, line)
+                node::record_of(self.alloc, cursor, self.depth, of, inits, line)
             }
             Some(Lexeme::Key(Key::LBracket, _)) => {
                 cursor.skip();
                 let items = self.elements(cursor)?;
-                node::array_of(cursor, self.depth, of, items, line)
+                node::array_of(self.alloc, cursor, self.depth, of, items, line)
             }
             _ => {
                 let name = op_name(self.alloc, cursor)?;
                 let args = self.args(cursor)?;
-                node::operation(cursor, self.depth, of, name, args, line)
+                node::operation(self.alloc, cursor, self.depth, of, name, args, line)
             }
         }
     }
@@ -240,7 +240,7 @@ impl<F: Fn(Global, &mut Cursor<'_>, u32, u8) -> Result<SizedExpr, ReadFault>> Re
         if at_literal(cursor) {
             let line = cursor.first_line();
             let value = literal(self.alloc, cursor)?;
-            return node::literal(cursor, self.depth, value, line);
+            return node::literal(self.alloc, cursor, self.depth, value, line);
         }
         self.typed(cursor)
     }
@@ -259,16 +259,16 @@ impl<F: Fn(Global, &mut Cursor<'_>, u32, u8) -> Result<SizedExpr, ReadFault>> Re
                 let name = name.copy(self.alloc)?;
                 if cursor.behind_two().is_target() {
                     cursor.skip();
-                    return node::name(cursor, self.depth, name, line);
+                    return node::name(self.alloc, cursor, self.depth, name, line);
                 }
                 cursor.skip_two();
                 let args = self.args(cursor)?;
-                node::call(cursor, self.depth, name, args, line)
+                node::call(self.alloc, cursor, self.depth, name, args, line)
             }
             _ => {
                 let name = name.copy(self.alloc)?;
                 cursor.skip();
-                node::name(cursor, self.depth, name, line)
+                node::name(self.alloc, cursor, self.depth, name, line)
             }
         }
     }
@@ -319,7 +319,7 @@ impl<F: Fn(Global, &mut Cursor<'_>, u32, u8) -> Result<SizedExpr, ReadFault>> Re
             cursor.skip_two();
             if let Some(Lexeme::Key(Key::RParen, _)) = cursor.peek() {
                 cursor.skip();
-                return node::now(cursor, self.depth, line);
+                return node::now(self.alloc, cursor, self.depth, line);
             }
             return Err(ReadFault::Syntax(cursor.line()));
         }

@@ -12,7 +12,7 @@ use crate::pass::pass;
 use crate::sized::{SizedIter, SizedValue, SizedVariable};
 use clu_expr_reader::{Cursor, ReadFault, SizedShape, expr, shape};
 use clu_tree::{Iter, Key, Lexeme, Named, Text};
-use sqlite_items::Items;
+use sqlite_items::{Boxed, Items};
 use std::alloc::Global;
 
 /// Whether a comma comes next.
@@ -149,9 +149,11 @@ fn range(
     pass!(cursor, Comma);
     let to = expr(alloc, cursor, depth, 5)?;
     pass!(cursor, RParen);
+    let height = from.height.max(to.height);
+    let iter = Iter::FromTo(from.expr.into_inner(), to.expr.into_inner(), line);
     Ok(SizedIter {
-        height: from.height.max(to.height),
-        iter: Iter::FromTo(from.expr, to.expr, line),
+        height,
+        iter: Boxed::new(alloc, iter)?,
     })
 }
 
@@ -196,9 +198,11 @@ fn elements_of(
 {
     let over = expr(alloc, cursor, depth, 5)?;
     pass!(cursor, RParen);
+    let height = of.height.max(over.height);
+    let iter = Iter::Elements(of.shape, over.expr.into_inner(), line);
     Ok(SizedIter {
-        height: of.height.max(over.height),
-        iter: Iter::Elements(of.shape, over.expr, line),
+        height,
+        iter: Boxed::new(alloc, iter)?,
     })
 }
 

@@ -15,6 +15,7 @@ use crate::sized::{SizedStmt, SizedTarget};
 use clu_expr_reader::node::{call, field, fit, index};
 use clu_expr_reader::{Cursor, ReadFault, SizedExpr, args, atom, expr, group};
 use clu_tree::{Expr, Key, Lexeme, Meant, Target, Text};
+use sqlite_items::Boxed;
 use std::alloc::Global;
 
 /// The node of a place.
@@ -29,7 +30,7 @@ fn place_node(
     ensures { Gives (λ x. x.expr) result cursor.now (expr_within depth (plan.place_node line (place_of place)) cursor.now) }
 {
     match place {
-        Place::Whole(of) => fit(cursor, depth, of.expr, of.height),
+        Place::Whole(of) => fit(alloc, cursor, depth, of.expr.into_inner(), of.height),
         Place::FieldOf(of, name) => field(alloc, cursor, depth, of, name, line),
         Place::ItemOf(of, at) => index(alloc, cursor, depth, of, at, line),
     }
@@ -127,7 +128,7 @@ fn called(alloc: Global, cursor: &mut Cursor<'_>, depth: u32) -> Result<SizedExp
     let (name, line) = cursor.name(alloc)?;
     pass!(cursor, LParen);
     let given = args(alloc, cursor, depth)?;
-    call(cursor, depth, name, given, line)
+    call(alloc, cursor, depth, name, given, line)
 }
 
 /// Whether a name and an opening bracket come next.
@@ -196,21 +197,30 @@ fn front_stmt(
 {
     match place {
         Place::FieldOf(of, name) => {
+            let height = of.height;
+            let target = Target::Field(of.expr.into_inner(), name, line, Meant::Unknown);
             let target = SizedTarget {
-                height: of.height,
-                target: Target::Field(of.expr, name, line, Meant::Unknown),
+                height,
+                target: Boxed::new(alloc, target)?,
             };
             assigned(alloc, cursor, depth, line, target)
         }
         Place::ItemOf(of, at) => {
+            let height = of.height.max(at.height);
+            let target = Target::Index(
+                of.expr.into_inner(),
+                at.expr.into_inner(),
+                line,
+                Meant::Unknown,
+            );
             let target = SizedTarget {
-                height: of.height.max(at.height),
-                target: Target::Index(of.expr, at.expr, line, Meant::Unknown),
+                height,
+                target: Boxed::new(alloc, target)?,
             };
             assigned(alloc, cursor, depth, line, target)
         }
         Place::Whole(of) => {
-            if grouped || !is_call(&of.expr) {
+            if grouped || !is_call(of.expr.get()) {
                 return Err(ReadFault::Syntax(cursor.line()));
             }
             node::call(cursor, depth, of, line)

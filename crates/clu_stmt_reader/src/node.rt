@@ -53,7 +53,7 @@ pub fn assign(
     ensures { Gives (λ x. x.stmt) result cursor.now (stmt_within depth (Stmt.Assign target.target value.expr line) cursor.now) }
 {
     let height = 1 + target.height.max(value.height);
-    let node = Stmt::Assign(target.target, value.expr, line);
+    let node = Stmt::Assign(target.target.into_inner(), value.expr.into_inner(), line);
     fit(cursor, depth, node, height)
 }
 
@@ -68,7 +68,7 @@ pub fn remote(
     ensures { Gives (λ x. x.stmt) result cursor.now (stmt_within depth (Stmt.Remote target call.remote line Meant.Unknown) cursor.now) }
 {
     let height = 1 + call.height;
-    let node = Stmt::Remote(target, call.remote, line, Meant::Unknown);
+    let node = Stmt::Remote(target, call.remote.into_inner(), line, Meant::Unknown);
     fit(cursor, depth, node, height)
 }
 
@@ -82,7 +82,12 @@ pub fn call(
     ensures { Gives (λ x. x.stmt) result cursor.now (stmt_within depth (Stmt.Call of.expr line) cursor.now) }
 {
     let height = 1 + of.height;
-    fit(cursor, depth, Stmt::Call(of.expr, line), height)
+    fit(
+        cursor,
+        depth,
+        Stmt::Call(of.expr.into_inner(), line),
+        height,
+    )
 }
 
 pub fn put_line(
@@ -95,7 +100,12 @@ pub fn put_line(
     ensures { Gives (λ x. x.stmt) result cursor.now (stmt_within depth (Stmt.PutLine text.expr line) cursor.now) }
 {
     let height = 1 + text.height;
-    fit(cursor, depth, Stmt::PutLine(text.expr, line), height)
+    fit(
+        cursor,
+        depth,
+        Stmt::PutLine(text.expr.into_inner(), line),
+        height,
+    )
 }
 
 pub fn sleep(
@@ -108,7 +118,12 @@ pub fn sleep(
     ensures { Gives (λ x. x.stmt) result cursor.now (stmt_within depth (Stmt.Sleep time.expr line) cursor.now) }
 {
     let height = 1 + time.height;
-    fit(cursor, depth, Stmt::Sleep(time.expr, line), height)
+    fit(
+        cursor,
+        depth,
+        Stmt::Sleep(time.expr.into_inner(), line),
+        height,
+    )
 }
 
 pub fn fork(
@@ -167,7 +182,13 @@ pub fn choice(
 {
     let deepest = body.height.max(arms.height.max(others.height));
     let height = 1 + test.height.max(deepest);
-    let node = Stmt::If(test.expr, body.items, arms.arms, others.body, line);
+    let node = Stmt::If(
+        test.expr.into_inner(),
+        body.items,
+        arms.arms,
+        others.body,
+        line,
+    );
     fit(cursor, depth, node, height)
 }
 
@@ -182,7 +203,7 @@ pub fn repeat(
     ensures { Gives (λ x. x.stmt) result cursor.now (stmt_within depth (Stmt.While test.expr body.items line) cursor.now) }
 {
     let height = 1 + test.height.max(body.height);
-    let node = Stmt::While(test.expr, body.items, line);
+    let node = Stmt::While(test.expr.into_inner(), body.items, line);
     fit(cursor, depth, node, height)
 }
 
@@ -199,7 +220,7 @@ pub fn each(
     ensures { Gives (λ x. x.stmt) result cursor.now (stmt_within depth (Stmt.For name of.shape over.iter body.items line) cursor.now) }
 {
     let height = 1 + of.height.max(over.height.max(body.height));
-    let node = Stmt::For(name, of.shape, over.iter, body.items, line);
+    let node = Stmt::For(name, of.shape, over.iter.into_inner(), body.items, line);
     fit(cursor, depth, node, height)
 }
 
@@ -215,7 +236,7 @@ pub fn tagcase(
     ensures { Gives (λ x. x.stmt) result cursor.now (stmt_within depth (Stmt.Tagcase of.expr tags.tags others.body line) cursor.now) }
 {
     let height = 1 + of.height.max(tags.height.max(others.height));
-    let node = Stmt::Tagcase(of.expr, tags.tags, others.body, line);
+    let node = Stmt::Tagcase(of.expr.into_inner(), tags.tags, others.body, line);
     fit(cursor, depth, node, height)
 }
 
@@ -243,7 +264,7 @@ pub fn region(
     ensures { Gives (λ x. x.stmt) result cursor.now (stmt_within depth (Stmt.Region lock.expr body.items line) cursor.now) }
 {
     let height = 1 + lock.height.max(body.height);
-    let node = Stmt::Region(lock.expr, body.items, line);
+    let node = Stmt::Region(lock.expr.into_inner(), body.items, line);
     fit(cursor, depth, node, height)
 }
 

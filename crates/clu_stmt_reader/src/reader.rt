@@ -102,7 +102,7 @@ impl<F: Fn(Global, &mut Cursor<'_>, u32) -> Result<SizedStmts, ReadFault>> Reade
         Ok(SizedArm {
             height: test.height.max(body.height),
             arm: Arm {
-                test: test.expr,
+                test: test.expr.into_inner(),
                 body: body.items,
             },
         })

@@ -8,6 +8,7 @@ use crate::pass::pass;
 use crate::sized::SizedRemote;
 use clu_expr_reader::{Cursor, ReadFault, args, expr};
 use clu_tree::{Key, Lexeme, Meant, Remote};
+use sqlite_items::Boxed;
 use std::alloc::Global;
 
 fn once(alloc: Global, cursor: &mut Cursor<'_>, depth: u32) -> Result<SizedRemote, ReadFault>
@@ -20,9 +21,17 @@ fn once(alloc: Global, cursor: &mut Cursor<'_>, depth: u32) -> Result<SizedRemot
     let given = args(alloc, cursor, depth)?;
     pass!(cursor, At);
     let node = expr(alloc, cursor, depth, 5)?;
+    let height = given.height.max(node.height);
+    let remote = Remote::Once(
+        name,
+        given.items,
+        node.expr.into_inner(),
+        line,
+        Meant::Unknown,
+    );
     Ok(SizedRemote {
-        remote: Remote::Once(name, given.items, node.expr, line, Meant::Unknown),
-        height: given.height.max(node.height),
+        remote: Boxed::new(alloc, remote)?,
+        height,
     })
 }
 
@@ -38,16 +47,18 @@ fn maybe(alloc: Global, cursor: &mut Cursor<'_>, depth: u32) -> Result<SizedRemo
     let node = expr(alloc, cursor, depth, 5)?;
     pass!(cursor, Within);
     let limit = expr(alloc, cursor, depth, 5)?;
+    let height = given.height.max(node.height.max(limit.height));
+    let remote = Remote::Maybe(
+        name,
+        given.items,
+        node.expr.into_inner(),
+        limit.expr.into_inner(),
+        line,
+        Meant::Unknown,
+    );
     Ok(SizedRemote {
-        height: given.height.max(node.height.max(limit.height)),
-        remote: Remote::Maybe(
-            name,
-            given.items,
-            node.expr,
-            limit.expr,
-            line,
-            Meant::Unknown,
-        ),
+        height,
+        remote: Boxed::new(alloc, remote)?,
     })
 }
 

@@ -1,6 +1,6 @@
 //! Statements that hold no others.
 
-ghost use Rattle.std.specs.Prelude.{◌≡◌, ◌≤◌};
+ghost use Rattle.std.specs.Prelude.{◌≡◌, ◌≤◌, IfOk};
 ghost use Rattle.clu_grammar.specs.Grammar.{line_of};
 ghost use Rattle.clu_grammar.specs.StmtPlan as plan;
 ghost use Rattle.clu_expr_reader.specs.Gives.{Gives};
@@ -13,7 +13,8 @@ use crate::remote::remote;
 use crate::sized::{SizedStmt, SizedTarget, SizedValue};
 use clu_expr_reader::{Cursor, ReadFault, SizedShape, args, expr, shape};
 use clu_tree::{Key, Lexeme, Meant, Target, Text};
-use std::alloc::Global;
+use sqlite_items::Boxed;
+use std::alloc::{AllocError, Global};
 
 /// Reads the initial value of a variable, if one is written.
 fn declared(
@@ -56,13 +57,14 @@ fn begins_remote(cursor: &Cursor<'_>) -> bool
     matches!(cursor.peek(), Some(Lexeme::Key(Key::Once | Key::Maybe, _)))
 }
 
-fn named(name: Text, line: u32) -> SizedTarget
-    ensures { result.target ≡ Target.Name name line Meant.Unknown }
+fn named(alloc: Global, name: Text, line: u32) -> Result<SizedTarget, AllocError>
+    ensures { IfOk result (λ found. found.target ≡ Target.Name name line Meant.Unknown) }
 {
-    SizedTarget {
-        target: Target::Name(name, line, Meant::Unknown),
+    let target = Target::Name(name, line, Meant::Unknown);
+    Ok(SizedTarget {
+        target: Boxed::new(alloc, target)?,
         height: 0,
-    }
+    })
 }
 
 /// Reads what a variable is assigned.
@@ -81,7 +83,8 @@ fn assigned(
         return node::remote(cursor, depth, Some(name), call, line);
     }
     let value = expr(alloc, cursor, depth, 5)?;
-    node::assign(cursor, depth, named(name, line), value, line)
+    let target = named(alloc, name, line)?;
+    node::assign(cursor, depth, target, value, line)
 }
 
 pub fn assignment(

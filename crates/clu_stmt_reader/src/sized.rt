@@ -7,7 +7,7 @@ ghost use Rattle.clu_stmt_reader.specs.Parts.{others_nesting};
 
 use clu_expr_reader::SizedExpr;
 use clu_tree::{Arm, Expr, Handlers, Iter, Named, Remote, Stmt, TagArm, Target, When};
-use sqlite_items::Items;
+use sqlite_items::{Boxed, Items};
 use std::alloc::{AllocError, Global};
 
 /// A statement, with the number of its levels.
@@ -121,7 +121,7 @@ pub struct SizedVariable {
 /// What stands before `:=`, with the number of its levels.
 #[derive(Drop)]
 pub struct SizedTarget {
-    pub target: Target,
+    pub target: Boxed<Target>,
     pub height: u32,
     ghost nests: { height ≡ target_nesting target },
     ghost small: { height ≤ 200 },
@@ -130,7 +130,7 @@ pub struct SizedTarget {
 /// A remote call, with the number of its levels.
 #[derive(Drop)]
 pub struct SizedRemote {
-    pub remote: Remote,
+    pub remote: Boxed<Remote>,
     pub height: u32,
     ghost nests: { height ≡ remote_nesting remote },
     ghost small: { height ≤ 200 },
@@ -139,7 +139,7 @@ pub struct SizedRemote {
 /// What a `for` goes over, with the number of its levels.
 #[derive(Drop)]
 pub struct SizedIter {
-    pub iter: Iter,
+    pub iter: Boxed<Iter>,
     pub height: u32,
     ghost nests: { height ≡ iter_nesting iter },
     ghost small: { height ≤ 200 },
@@ -258,7 +258,7 @@ impl SizedValue {
     {
         SizedValue {
             height: value.height,
-            value: Some(value.expr),
+            value: Some(value.expr.into_inner()),
         }
     }
 }
