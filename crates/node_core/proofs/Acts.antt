@@ -1,5 +1,6 @@
 -- What the rows tell of their acts, and one step more of a turn.
-use Rattle.std.proofs.Common.{◌≡◌, ◌≢◌, ◌<◌, inl, inr, ℕ, zero, suc, ◌+◌, Bool, true, false, List, [], ◌∷◌, Option, Some, None, refl, sym, ◌∙◌, ap, subst, arith, append-nil, add-one}
+use Rattle.std.specs.Prelude.{int_le}
+use Rattle.std.proofs.Common.{◌≡◌, ◌≢◌, ◌<◌, inl, inr, ℕ, zero, suc, ◌+◌, pos, Bool, true, false, List, [], ◌∷◌, Option, Some, None, refl, sym, ◌∙◌, ap, subst, arith, append-nil, add-one}
 use Rattle.clu_tree.specs.declared.value.Addr.{Addr}
 use Rattle.clu_tree.specs.Typed.{IsTyped}
 use Rattle.clu_tree.specs.declared.program.Program.{Program}
@@ -50,7 +51,7 @@ running n frames t = state_of n (ready 1 frames ∷ []) 1 t
 acted_fits : (n t : ℕ) (was frames : List Frame) (does : Act) → ActFits does frames → acted 1 (running n was t) does frames ≡ Some (state_of n (left_of (after_of t does) frames) 1 t, noted n does)
 acted_fits n t was frames act.Went h = refl
 acted_fits n t was frames (act.Put text) h = refl
-acted_fits n t was frames (act.Sleep ms) h = refl
+acted_fits n t was frames (act.Sleep ms) h = by_test (int_le ms (pos 0)) (λ e. rw e refl) (λ e. rw e refl)
 acted_fits n t was frames (act.Ended v) h = refl
 acted_fits n t was frames does h = elim h [ ]
 
@@ -113,7 +114,7 @@ on_fits program good t frames fits g left does h = row_fits program good t frame
 ready_full : (t : ℕ) (does : Act) (g : List Frame) → ActFits does g → after_of t does ≡ after.Ready → g ≢ []
 ready_full t act.Went g h e = h
 ready_full t (act.Put text) g h e = h
-ready_full t (act.Sleep ms) g h e = cc
+ready_full t (act.Sleep ms) g h e = h
 ready_full t (act.Ended v) g h e = cc
 ready_full t does g h e = elim h [ ]
 

@@ -1,5 +1,5 @@
 -- What a step does to the node that the process lives on.
-use Rattle.std.specs.Prelude.{◌≡◌, ◌≤◌, ◌<◌, ◌⊎◌, ℕ, ◌+◌, nat_abs, List, [], ◌∷◌, Some, None, IsSome}
+use Rattle.std.specs.Prelude.{◌≡◌, ◌≤◌, ◌<◌, ◌⊎◌, ℕ, ◌+◌, pos, nat_abs, int_le, if◌then◌else◌, List, [], ◌∷◌, Some, None, IsSome}
 use Rattle.clu_tree.specs.declared.program.Program.{Program}
 use Rattle.machine_rules.specs.declared.frame.Frame.{Frame}
 use Rattle.machine_rules.specs.declared.act.Act.{Act}
@@ -20,9 +20,9 @@ noted node (act.Put text) = record nothing { lines = record { node = node; text 
 noted node (act.Ended value) = record nothing { marks = mark.Ended 1 ∷ [] }
 noted node _ = nothing
 
--- what the process does behind a step at the time
+-- what the process does behind a step at the time; a sleep of 0 ms or less has no limit
 abbrev pub after_of : ℕ → Act → After
-after_of time (act.Sleep ms) = after.Asleep (time + nat_abs ms)
+after_of time (act.Sleep ms) = if int_le ms (pos 0) then after.Ready else after.Asleep (time + nat_abs ms)
 after_of time (act.Ended value) = after.Over
 after_of time _ = after.Ready
 

@@ -3,6 +3,7 @@
 ghost use Rattle.std.specs.Prelude.{◌≡◌, ◌≢◌, ◌≤◌, ◌<◌, ◌^◌, [], IfOk, OnOk};
 ghost use Rattle.clu_tree.specs.Typed.{IsTyped};
 ghost use Rattle.machine_rules.specs.Typing.{FramesFit};
+ghost use Rattle.machine_rules.specs.declared.act.Act.TheVariants as act;
 ghost use Rattle.world_rules.specs.Plain.{join};
 ghost use Rattle.node_core.specs.Acts.{IsNoted, RanTo, after_of, noted};
 
@@ -37,6 +38,17 @@ pub struct Ran {
     pub effects: Effects,
 }
 
+/// What a process does behind a sleep of so many ms at the time.
+fn sleep_of(time: u64, ms: i64) -> After
+    requires early { time < 2 ^ 62 }
+    ensures { result ≡ after_of time (act.Sleep ms) }
+{
+    if ms <= 0 {
+        return After::Ready;
+    }
+    After::Asleep(time + ms.unsigned_abs())
+}
+
 /// Adds what a step does at the node to the effects, and answers what the process does behind it.
 fn note(
     alloc: Global,
@@ -57,7 +69,7 @@ fn note(
             effects.lines.push(Line { node: number, text })?;
             Ok(After::Ready)
         }
-        Act::Sleep(ms) => Ok(After::Asleep(time + ms.unsigned_abs())),
+        Act::Sleep(ms) => Ok(sleep_of(time, ms)),
         Act::Ended(_) => {
             effects.marks.push(Mark::Ended(PROCESS))?;
             Ok(After::Over)
