@@ -15,7 +15,7 @@ use Rattle.world_rules.specs.Plain.{and_then, behind, join, nothing}
 use Rattle.world_rules.specs.Node.{Live, NodeState, acted, ready, step_of, steps}
 use Rattle.world_rules.proofs.Erasing.{join-assoc}
 use Rattle.world_rules.proofs.Plainly.{and_then_some}
-use Rattle.node_core.specs.Kept.{state_of}
+use Rattle.node_core.specs.Seen.{state_of}
 use Rattle.node_core.specs.Acts.{IsNoted, RanTo, after_of, left_of, noted}
 use Rattle.node_core.specs.declared.turn.After.{After}
 use Rattle.node_core.specs.declared.turn.After.TheVariants as after
@@ -55,7 +55,7 @@ acted_fits n t was frames (act.Sleep ms) h = by_test (int_le ms (pos 0)) (λ e. 
 acted_fits n t was frames (act.Ended v) h = refl
 acted_fits n t was frames does h = elim h [ ]
 
--- a step of the process that is kept
+-- a step of the only process
 pub step_fits : (program : Program) → IsTyped program → (n t : ℕ) (frames : List Frame) → FramesFit program frames → (next : Next) → row (bare_world program t) frames ≡ Some next →
     step_of program 1 (running n frames t) ≡ Some (state_of n (left_of (after_of t next.act) next.frames) 1 t, noted n next.act)
 step_fits program good n t frames fits next h =
@@ -95,7 +95,7 @@ steps_more program p (suc k) s s' s'' x y h one =
 
 -- ---- what a turn has reached after one step more
 
--- so many steps of the process that is kept, and what they leave of it
+-- so many steps of the only process, and what they leave of it
 abbrev pub Took : Program → ℕ → ℕ → ℕ → List Frame → List Live → Effects → Type 0
 Took program n t k was left x = steps program 1 k (running n was t) ≡ Some (state_of n left 1 t, x)
 

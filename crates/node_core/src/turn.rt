@@ -78,26 +78,26 @@ fn note(
     }
 }
 
-/// Takes steps of a process that was picked at the node, up to the limit, its sleep or its end.
+/// Takes steps of a process that was picked at the node, at most so many, up to its sleep or its end.
 pub fn run(
     alloc: Global,
     program: &Program,
     number: u32,
     time: u64,
-    limit: u32,
+    most: u32,
     mut process: Process,
 ) -> Result<Ran, AllocError>
     requires typed { IsTyped program.now }
     requires fits { FramesFit program.now process }
     requires goes_on { process ≢ [] }
-    requires some { 1 ≤ limit }
+    requires some { 1 ≤ most }
     requires early { time < 2 ^ 62 }
-    ensures { IfOk result (λ ran. RanTo program.now number process time limit ran) }
+    ensures { IfOk result (λ ran. RanTo program.now number process time most ran) }
 {
     let mut effects = Effects::nothing(alloc);
     let mut objects = Region::new(alloc)?;
     let mut steps = 0;
-    while steps < limit {
+    while steps < most {
         let StepEnd { left: _, act } = step(alloc, program, time, &mut objects, &mut process)?;
         steps += 1;
         match note(alloc, number, time, &mut effects, act)? {

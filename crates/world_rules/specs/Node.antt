@@ -106,13 +106,13 @@ expired (owner.Process n) s = (record s { processes = woken n s.processes }, rec
 expired call s = (s, record nothing { marks = mark.Expired call ∷ [] })
 
 -- the node after what it did first and what it did then, with the effects of both
-abbrev pub joined : NodeState × Effects → (NodeState → NodeState × Effects) → NodeState × Effects
-joined a next = ((next a.0).0, join a.1 (next a.0).1)
+abbrev pub followed_by : NodeState × Effects → (NodeState → NodeState × Effects) → NodeState × Effects
+followed_by a next = ((next a.0).0, join a.1 (next a.0).1)
 
 -- these limits expire one after the other
 abbrev pub expire : List Limit → NodeState → NodeState × Effects
 expire [] s = (s, nothing)
-expire (l ∷ ls) s = joined (expired l.1 s) (expire ls)
+expire (l ∷ ls) s = followed_by (expired l.1 s) (expire ls)
 
 -- the node advances to t: its time is t, and all limits at or before t expire in their order
 abbrev pub advance : NodeState → ℕ → NodeState × Effects
