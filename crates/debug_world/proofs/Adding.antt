@@ -11,13 +11,14 @@ use Rattle.world_types.specs.declared.effects.Effects.{Effects}
 use Rattle.world_types.specs.declared.effects.Entry.{Entry}
 use Rattle.world_rules.specs.Plain.{World, join, node_at, nothing, plain}
 use Rattle.world_rules.specs.Said.{last_stamp, marked, plain_events, plainly_at}
-use Rattle.world_rules.specs.Legal.{ArePlain, Follows, bare, enter, first_failing, first_of, most, reached, settled}
+use Rattle.world_rules.specs.Conditions.{first_of}
+use Rattle.world_rules.specs.Legal.{ArePlain, Follows, bare, enter, first_failing, most, reached, settled}
 use Rattle.world_rules.specs.Node.{NodeState, due, first_of_program, nodes_from, picks, rules_of, tick, turn}
 use Rattle.world_rules.proofs.Erasing.{cut-plain, events-append, plain-append}
 use Rattle.world_rules.proofs.Following.{and_left, and_right, passes}
 use Rattle.world_rules.proofs.Lawfully.{lawful}
 use Rattle.world_rules.proofs.Plainly.{gives, marked-plain, most-plain}
-use Rattle.node_core.specs.Kept.{Kept, most_steps, no_marks}
+use Rattle.node_core.specs.Seen.{CanTick, CanTurn, NodeSeen, most_steps, no_marks}
 use Rattle.debug_world.specs.Seen.{Adds, AreOwn, IsOwn, Keeps, Refuses, Seen, ticked, turned}
 use Rattle.debug_world.proofs.Turning.{all_plain, failing_tick, failing_turn, some_fst, most-alike, own_plain, reached_is, short_tick, short_turn, some_of, tick-shown, turn-shown}
 
@@ -33,12 +34,12 @@ pub record Knows (program : Program) (s : NodeState) (list : List Told) (last : 
   pub ran : plain (rules_of program) (first_of_program program) (plain_events list) ≡ Some ((s, sent) ∷ [], effects)
   pub early : s.time ≤ last
 
-pub known : (node : Kept) (list : List Told) (last : ℕ) (spent : Bool) → Keeps node list last spent → spent ≡ false → Knows node.program node.state list last
+pub known : (node : NodeSeen) (list : List Told) (last : ℕ) (spent : Bool) → Keeps node list last spent → spent ≡ false → Knows node.program node.state list last
 known node list last spent h unspent =
     let k = h.leaves unspent in
     record { own = h.own; stamp = k.0; sent = k.1.sent; effects = k.1.effects; ran = k.1.ran; early = k.1.early }
 
-pub unspent_node : (node : Kept) (list : List Told) (last : ℕ) (spent : Bool) → Keeps node list last spent → spent ≡ false → node.spent ≡ false
+pub unspent_node : (node : NodeSeen) (list : List Told) (last : ℕ) (spent : Bool) → Keeps node list last spent → spent ≡ false → node.spent ≡ false
 unspent_node node list last spent h unspent = (h.leaves unspent).1.unspent
 
 pub at : (program : Program) (s : NodeState) (list : List Told) (last : ℕ) (k : Knows program s list last) → reached (rules_of program) (first_of_program program) (reverse list) ≡ (s, k.sent) ∷ []
@@ -183,7 +184,7 @@ follow_tick program s s' list last stamp y knows ticks none = follow program s s
 -- ---- what a world answers
 
 -- the parts of a world, as they are seen
-abbrev seen : Kept → List Told → Bool → Seen
+abbrev seen : NodeSeen → List Told → Bool → Seen
 seen node list spent = record { program = node.program; list = list; spent = spent }
 
 -- the only node at its start
@@ -192,7 +193,7 @@ alone program [] s n h = cc
 alone program (d ∷ []) s n h = let e = some_fst _ _ h in (ap (λ (q : NodeState). (q, []) ∷ []) e, sym (ap (λ (q : NodeState). q.time) e))
 alone program (d ∷ e ∷ ds) s n h = absurd (omega arith)
 
-pub keeps_new : (node : Kept) (program : Program) (list : List Told) → IsTyped program → node.program ≡ program → node_at (first_of_program program) 1 ≡ Some (node.state, []) → node.spent ≡ false → list ≡ [] → Keeps node list 0 false
+pub keeps_new : (node : NodeSeen) (program : Program) (list : List Told) → IsTyped program → node.program ≡ program → node_at (first_of_program program) 1 ≡ Some (node.state, []) → node.spent ≡ false → list ≡ [] → Keeps node list 0 false
 keeps_new node program list typed is there unspent empty = rw empty (record {
   own = tt;
   leaves = λ h. (
@@ -207,7 +208,7 @@ keeps_new node program list typed is there unspent empty = rw empty (record {
   );
 })
 
-pub refuses : (v : Seen) (node : Kept) (list : List Told) (spent : Bool) (event : Told) (number : ℕ) (o : Option ℕ) → seen node list spent ≡ v → spent ≡ false → Some number ≡ o →
+pub refuses : (v : Seen) (node : NodeSeen) (list : List Told) (spent : Bool) (event : Told) (number : ℕ) (o : Option ℕ) → seen node list spent ≡ v → spent ≡ false → Some number ≡ o →
     o ≡ first_failing (rules_of v.program) (first_of_program v.program) (reverse v.list) event → Refuses v v event number
 refuses v node list spent event number o is unspent some first = record {
   was = sym (ap (λ (w : Seen). w.spent) is) ∙ unspent;
@@ -216,29 +217,29 @@ refuses v node list spent event number o is unspent some first = record {
 }
 
 -- what is refused of a world is refused of its parts
-of_parts : (v : Seen) (node : Kept) (list : List Told) (spent : Bool) (event : Told) (o p : Option ℕ) → seen node list spent ≡ v → o ≡ p → first_failing (rules_of node.program) (first_of_program node.program) (reverse list) event ≡ p →
+of_parts : (v : Seen) (node : NodeSeen) (list : List Told) (spent : Bool) (event : Told) (o p : Option ℕ) → seen node list spent ≡ v → o ≡ p → first_failing (rules_of node.program) (first_of_program node.program) (reverse list) event ≡ p →
     o ≡ first_failing (rules_of v.program) (first_of_program v.program) (reverse v.list) event
 of_parts v node list spent event o p is first tested = first ∙ sym (subst (λ (w : Seen). first_failing (rules_of w.program) (first_of_program w.program) (reverse w.list) event ≡ p) is tested)
 
-pub turn_refusal_is : (v : Seen) (node : Kept) (list : List Told) (last : ℕ) (spent : Bool) (stamp n r steps : ℕ) (o : Option ℕ) → seen node list spent ≡ v → v.spent ≡ false → Keeps node list last spent →
+pub turn_refusal_is : (v : Seen) (node : NodeSeen) (list : List Told) (last : ℕ) (spent : Bool) (stamp n r steps : ℕ) (o : Option ℕ) → seen node list spent ≡ v → v.spent ≡ false → Keeps node list last spent →
     o ≡ first_of (short_turn node.program last node.state stamp n r) → o ≡ first_failing (rules_of v.program) (first_of_program v.program) (reverse v.list) (turned stamp n steps r)
 turn_refusal_is v node list last spent stamp n r steps o is unspent h first =
     of_parts v node list spent (turned stamp n steps r) o (first_of (short_turn node.program last node.state stamp n r)) is first
     (turn_tested node.program node.state list last stamp n steps r (known node list last spent h (ap (λ (w : Seen). w.spent) is ∙ unspent)))
 
-pub tick_refusal_is : (v : Seen) (node : Kept) (list : List Told) (last : ℕ) (spent : Bool) (stamp n : ℕ) (o : Option ℕ) → seen node list spent ≡ v → v.spent ≡ false → Keeps node list last spent →
+pub tick_refusal_is : (v : Seen) (node : NodeSeen) (list : List Told) (last : ℕ) (spent : Bool) (stamp n : ℕ) (o : Option ℕ) → seen node list spent ≡ v → v.spent ≡ false → Keeps node list last spent →
     o ≡ first_of (short_tick node.program last node.state stamp n) → o ≡ first_failing (rules_of v.program) (first_of_program v.program) (reverse v.list) (ticked stamp n)
 tick_refusal_is v node list last spent stamp n o is unspent h first =
     of_parts v node list spent (ticked stamp n) o (first_of (short_tick node.program last node.state stamp n)) is first
     (tick_tested node.program node.state list last stamp n (known node list last spent h (ap (λ (w : Seen). w.spent) is ∙ unspent)))
 
 -- an event that isn't refused, of a world whose parts these are
-pub record Met (v : Seen) (node : Kept) (list : List Told) (last : ℕ) (e : Told) : Type 0 where
+pub record Met (v : Seen) (node : NodeSeen) (list : List Told) (last : ℕ) (e : Told) : Type 0 where
   pub is : seen node list false ≡ v
   pub keeps : Keeps node list last false
   pub none : none_fails node.program list e
 
-pub met : (v : Seen) (node : Kept) (list : List Told) (last : ℕ) (spent : Bool) (e : Told) (o : Option ℕ) → seen node list spent ≡ v → spent ≡ false → Keeps node list last spent → None ≡ o →
+pub met : (v : Seen) (node : NodeSeen) (list : List Told) (last : ℕ) (spent : Bool) (e : Told) (o : Option ℕ) → seen node list spent ≡ v → spent ≡ false → Keeps node list last spent → None ≡ o →
     o ≡ first_failing (rules_of v.program) (first_of_program v.program) (reverse v.list) e → Met v node list last e
 met v node list last spent e o is free h gone first =
     let is' : seen node list false ≡ v = ap (λ (b : Bool). seen node list b) (sym free) ∙ is in
@@ -249,11 +250,11 @@ met v node list last spent e o is free h gone first =
     }
 
 -- an event that was applied is added
-pub record Added (v : Seen) (node' : Kept) (list' : List Told) (event e : Told) (y : Effects) : Type 0 where
+pub record Added (v : Seen) (node' : NodeSeen) (list' : List Told) (event e : Told) (y : Effects) : Type 0 where
   pub keeps : Keeps node' list' e.stamp false
   pub adds : Adds v (seen node' list' false) event (entry_of e y)
 
-added_by : (v : Seen) (node node' : Kept) (list list' : List Told) (last : ℕ) (event e : Told) (y : Effects) → seen node list false ≡ v → node'.spent ≡ false → node'.program ≡ node.program → list' ≡ list ++ e ∷ [] →
+added_by : (v : Seen) (node node' : NodeSeen) (list list' : List Told) (last : ℕ) (event e : Told) (y : Effects) → seen node list false ≡ v → node'.spent ≡ false → node'.program ≡ node.program → list' ≡ list ++ e ∷ [] →
     e ≡ settled (rules_of node.program) (first_of_program node.program) (reverse list) event → Follow node.program node'.state list e y → Added v node' list' event e y
 added_by v node node' list list' last event e y is unspent same longer most f = subst (λ (w : Seen). Added w node' list' event e y) is (record {
   keeps = rw longer (record {
@@ -268,7 +269,7 @@ added_by v node node' list list' last event e y is unspent same longer most f = 
   };
 })
 
-pub added_turn : (v : Seen) (node node' : Kept) (list list' : List Told) (last stamp n r limit k : ℕ) (y : Effects) → Met v node list last (turned stamp n limit r) →
+pub added_turn : (v : Seen) (node node' : NodeSeen) (list list' : List Told) (last stamp n r limit k : ℕ) (y : Effects) → Met v node list last (turned stamp n limit r) →
     node'.spent ≡ false → node'.program ≡ node.program → k ≡ most_steps node r limit → turn node.program node.state k r ≡ Some (node'.state, y) → list' ≡ list ++ turned stamp n k r ∷ [] →
     Added v node' list' (turned stamp n limit r) (turned stamp n k r) y
 added_turn v node node' list list' last stamp n r limit k y m unspent same most_of took longer = at_one n (sym (meets_turn node.program node.state list last stamp n limit r (known node list last false m.keeps refl) m.none).node) m.none longer
@@ -278,7 +279,7 @@ added_turn v node node' list list' last stamp n r limit k y m unspent same most_
         (λ none q. let f = follow_turn node.program node.state node'.state list last stamp r limit k y (known node list last false m.keeps refl) (record { most_of = most_of; turned = took }) none in
         added_by v node node' list list' last (turned stamp 1 limit r) (turned stamp 1 k r) y m.is unspent same q f.most_is f.follow)
 
-pub added_tick : (v : Seen) (node node' : Kept) (list list' : List Told) (last stamp n : ℕ) (y : Effects) → Met v node list last (ticked stamp n) →
+pub added_tick : (v : Seen) (node node' : NodeSeen) (list list' : List Told) (last stamp n : ℕ) (y : Effects) → Met v node list last (ticked stamp n) →
     node'.spent ≡ false → node'.program ≡ node.program → tick node.state stamp ≡ Some (node'.state, y) → list' ≡ list ++ ticked stamp n ∷ [] → Added v node' list' (ticked stamp n) (ticked stamp n) y
 added_tick v node node' list list' last stamp n y m unspent same ticks longer = at_one n (sym (meets_tick node.program node.state list last stamp n (known node list last false m.keeps refl) m.none).node) m.none longer
   where
@@ -289,20 +290,19 @@ added_tick v node node' list list' last stamp n y m unspent same ticks longer = 
 
 -- ---- what isn't refused is possible
 
-pub can_turn : (v : Seen) (node : Kept) (list : List Told) (last stamp n r limit : ℕ) → Met v node list last (turned stamp n limit r) →
-    (node.spent ≡ false) × (node.state.time ≤ r) × (due node.state r ≡ false) × (is_some (picks node.state) ≡ true)
-can_turn v node list last stamp n r limit m =
+pub can_turn : (v : Seen) (node : NodeSeen) (list : List Told) (last stamp n r limit : ℕ) → 1 ≤ limit → Met v node list last (turned stamp n limit r) → CanTurn node r limit
+can_turn v node list last stamp n r limit some m =
     let k = known node list last false m.keeps refl in
     let t = meets_turn node.program node.state list last stamp n limit r k m.none in
-    ((m.keeps.leaves refl).1.unspent, omega (arith, k.early, t.late), t.free, t.ready)
+    record { unspent = (m.keeps.leaves refl).1.unspent; some = some; late = omega (arith, k.early, t.late); free = t.free; ready = t.ready }
 
-pub can_tick : (v : Seen) (node : Kept) (list : List Told) (last stamp n : ℕ) → Met v node list last (ticked stamp n) → (node.spent ≡ false) × (node.state.time ≤ stamp) × (due node.state stamp ≡ true)
+pub can_tick : (v : Seen) (node : NodeSeen) (list : List Told) (last stamp n : ℕ) → Met v node list last (ticked stamp n) → CanTick node stamp
 can_tick v node list last stamp n m =
     let k = known node list last false m.keeps refl in
     let t = meets_tick node.program node.state list last stamp n k m.none in
-    ((m.keeps.leaves refl).1.unspent, omega (arith, k.early, t.rises), t.due)
+    record { unspent = (m.keeps.leaves refl).1.unspent; late = omega (arith, k.early, t.rises); due = t.due }
 
 -- a reading that isn't refused is as early as the stamp
-pub read_early : (v : Seen) (node : Kept) (list : List Told) (last stamp n r limit : ℕ) → Met v node list last (turned stamp n limit r) → stamp < 2 ^ 62 → r < 2 ^ 62
+pub read_early : (v : Seen) (node : NodeSeen) (list : List Told) (last stamp n r limit : ℕ) → Met v node list last (turned stamp n limit r) → stamp < 2 ^ 62 → r < 2 ^ 62
 read_early v node list last stamp n r limit m early =
     omega (arith, (meets_turn node.program node.state list last stamp n limit r (known node list last false m.keeps refl) m.none).read, early)

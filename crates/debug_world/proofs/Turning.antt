@@ -12,7 +12,9 @@ use Rattle.world_types.specs.declared.effects.Sent.{Sent}
 use Rattle.world_types.specs.declared.effects.Effects.{Effects}
 use Rattle.world_rules.specs.Plain.{Rules, World, and_then, behind, plain}
 use Rattle.world_rules.specs.Said.{cut, last_by, last_of, last_stamp, marked, node_of, plain_events, rounds}
-use Rattle.world_rules.specs.Legal.{ArePlain, IsPlainEvent, Test, first_failing, first_of, is_node, most, passed, reached}
+use Rattle.world_rules.specs.declared.condition.Condition.TheVariants as on
+use Rattle.world_rules.specs.Conditions.{Test, first_of, number_of}
+use Rattle.world_rules.specs.Legal.{ArePlain, IsPlainEvent, first_failing, is_node, most, passed, reached}
 use Rattle.world_rules.specs.Node.{NodeState, acted, advance, can_turn, due, expire, expired, expiring, first_of_program, picked_at, picks, ready_frames, rules_of, step_of, steps, tick, turn}
 use Rattle.machine_rules.specs.declared.frame.Frame.{Frame}
 use Rattle.machine_rules.specs.declared.act.Act.{Act}
@@ -21,7 +23,7 @@ use Rattle.machine_rules.specs.Row.{bare_world, row}
 use Rattle.world_rules.proofs.Erasing.{cut-plain, erased-plain, halted-plain, reverse-twice, rounds-plain}
 use Rattle.world_rules.proofs.Lawfully.{passed_at}
 use Rattle.world_rules.proofs.Plainly.{and_then_some, goal-plain, marked-plain, quit-plain, unblocked, unmarked-plain}
-use Rattle.node_core.specs.Kept.{no_marks}
+use Rattle.node_core.specs.Seen.{no_marks}
 use Rattle.debug_world.specs.Seen.{AreOwn, IsOwn, ticked, turned}
 
 by_test : {P : Type 0} (b : Bool) → (b ≡ true → P) → (b ≡ false → P) → P
@@ -128,11 +130,11 @@ module _ (program : Program) where
   -- the conditions of a turn after turns and ticks
   abbrev pub short_turn : ℕ → NodeState → ℕ → ℕ → ℕ → List Test
   short_turn last s stamp n r =
-      (1, nat_le last stamp) ∷ (3, n == 1) ∷ (10, nat_le last r && nat_le r stamp) ∷ (11, not (due s r)) ∷ (12, is_some (picks s)) ∷ []
+      (on.StampRises, nat_le last stamp) ∷ (on.NamesNodes, n == 1) ∷ (on.ReadsInTime, nat_le last r && nat_le r stamp) ∷ (on.DueFits, not (due s r)) ∷ (on.CanStep, is_some (picks s)) ∷ []
 
   -- the conditions of a tick after turns and ticks
   abbrev pub short_tick : ℕ → NodeState → ℕ → ℕ → List Test
-  short_tick last s stamp n = (1, nat_le last stamp) ∷ (3, n == 1) ∷ (11, due s stamp) ∷ []
+  short_tick last s stamp n = (on.StampRises, nat_le last stamp) ∷ (on.NamesNodes, n == 1) ∷ (on.DueFits, due s stamp) ∷ []
 
   turn_one : (past : List Told) (s : NodeState) (sent : List Sent) (stamp k r : ℕ) → AreOwn past → reached (rules_of program) (first_of_program program) past ≡ (s, sent) ∷ [] →
       first_failing (rules_of program) (first_of_program program) past (turned stamp 1 k r) ≡ first_of (short_turn (last_stamp past) s stamp 1 r)

@@ -1,5 +1,5 @@
 -- What a world is seen as, and what its calls answer.
-use Rattle.std.specs.Prelude.{◌≡◌, ℕ, ◌≤◌, Bool, true, false, List, [], ◌∷◌, ◌++◌, reverse, Some, Result, Ok, Err}
+use Rattle.std.specs.Prelude.{◌≡◌, ℕ, ◌≤◌, Bool, true, false, List, [], ◌∷◌, ◌++◌, reverse, Option, Some, Result, Ok, Err}
 use Rattle.clu_tree.specs.declared.program.Program.{Program}
 use Rattle.world_types.specs.declared.event.Event.{Event}
 use Rattle.world_types.specs.declared.event.Event.TheVariants.{Turn, Tick}
@@ -11,7 +11,7 @@ use Rattle.world_rules.specs.Plain.{plain}
 use Rattle.world_rules.specs.Said.{last_stamp, plain_events}
 use Rattle.world_rules.specs.Legal.{Follows, first_failing, settled, told}
 use Rattle.world_rules.specs.Node.{first_of_program, rules_of}
-use Rattle.node_core.specs.Kept.{Kept}
+use Rattle.node_core.specs.Seen.{NodeSeen}
 use Rattle.debug_world.specs.declared.world.WorldFault.{WorldFault}
 use Rattle.debug_world.specs.declared.world.WorldFault.TheVariants.{Illegal, Memory}
 
@@ -46,14 +46,14 @@ AreOwn [] = Unit {0}
 AreOwn (e ∷ past) = IsOwn e.event × AreOwn past
 
 -- the node is what the machine without debugger leaves after the list
-pub record Leaves (node : Kept) (list : List Told) (last : ℕ) : Type 0 where
+pub record Leaves (node : NodeSeen) (list : List Told) (last : ℕ) : Type 0 where
   pub unspent : node.spent ≡ false
   pub sent : List Sent
   pub effects : Effects
   pub ran : plain (rules_of node.program) (first_of_program node.program) (plain_events list) ≡ Some ((node.state, sent) ∷ [], effects)
   pub early : node.state.time ≤ last
 
-pub record Keeps (node : Kept) (list : List Told) (last : ℕ) (spent : Bool) : Type 0 where
+pub record Keeps (node : NodeSeen) (list : List Told) (last : ℕ) (spent : Bool) : Type 0 where
   pub own : AreOwn (reverse list)
   pub leaves : spent ≡ false → (last_stamp (reverse list) ≡ last) × Leaves node list last
 
@@ -66,11 +66,15 @@ pub record Adds (old new : Seen) (event : Told) (entry : Entry) : Type 0 where
   pub most : told entry ≡ settled (rules_of old.program) (first_of_program old.program) (reverse old.list) event
   pub follows : Follows (rules_of old.program) (first_of_program old.program) (reverse old.list) entry
 
+-- the number of the first condition that the event fails after the list, where it fails one
+abbrev pub refusal : Seen → Told → Option ℕ
+refusal world event = first_failing (rules_of world.program) (first_of_program world.program) (reverse world.list) event
+
 -- the event isn't legal after the list, by this number, and nothing changed
 pub record Refuses (old new : Seen) (event : Told) (number : ℕ) : Type 0 where
   pub was : old.spent ≡ false
   pub is : new ≡ old
-  pub first : first_failing (rules_of old.program) (first_of_program old.program) (reverse old.list) event ≡ Some number
+  pub first : refusal old event ≡ Some number
 
 abbrev pub AnswersTo : Seen → Seen → Told → Result Entry WorldFault → Type 0
 AnswersTo old new event (Ok entry) = Adds old new event entry

@@ -1,26 +1,17 @@
-//! The numbers of the conditions that an entry meets.
+//! Conditions that are tested in their order.
 
 ghost use Rattle.std.specs.Prelude.{◌≡◌, ◌&&◌, nat_le};
-ghost use Rattle.world_rules.specs.Legal.{first_of};
+ghost use Rattle.world_rules.specs.Conditions.{first_of};
 
-/// The stamp isn't below the last stamp.
-pub const STAMP_RISES: u8 = 1;
-/// Each node that is named is one of the program's.
-pub const NAMES_NODES: u8 = 3;
-/// The reading is at least the node's last stamp, and at most this stamp.
-pub const READS_IN_TIME: u8 = 10;
-/// For a turn, no limit is due at its reading; for a tick, some limit is due at its stamp.
-pub const IS_DUE: u8 = 11;
-/// Some process is ready.
-pub const HAS_READY: u8 = 12;
+use world_rules::Condition;
 
 /// The number of the first condition that doesn't hold.
-pub fn first_failing_of(tests: &[(u8, bool)]) -> Option<u8>
+pub fn first_failing_of(tests: &[(Condition, bool)]) -> Option<u8>
     ensures { result ≡ first_of tests.now }
 {
-    for &(number, holds) in tests {
+    for &(condition, holds) in tests {
         if !holds {
-            return Some(number);
+            return Some(condition.number());
         }
     }
     None

@@ -4,6 +4,7 @@
 mod conditions;
 mod world;
 
-pub use conditions::{HAS_READY, IS_DUE, NAMES_NODES, READS_IN_TIME, STAMP_RISES};
+pub use node_core::Memory;
 pub use world::{DebugWorld, WorldFault};
+pub use world_rules::Condition;
 pub use world_types::{Entry, Told};

@@ -1,18 +1,15 @@
-ghost use Rattle.std.specs.Prelude.{◌≡◌, ◌≢◌, ◌≤◌, ◌<◌, ◌^◌, ◌∷◌, [], ℕ, Err, IfOk, false, reverse};
+ghost use Rattle.std.specs.Prelude.{◌≡◌, ◌≤◌, ◌<◌, ◌^◌, [], ℕ, IfOk, false};
 ghost use Rattle.clu_tree.specs.Typed.{IsTyped};
-ghost use Rattle.world_rules.specs.Legal.{first_failing, first_of};
-ghost use Rattle.world_rules.specs.Node.{first_of_program, rules_of};
-ghost use Rattle.debug_world.specs.Seen.{AnswersTo, MayBeApplied, ticked, turned};
+ghost use Rattle.debug_world.specs.Seen.{AnswersTo, MayBeApplied, refusal, ticked, turned};
 
-use crate::conditions::{
-    HAS_READY, IS_DUE, NAMES_NODES, READS_IN_TIME, STAMP_RISES, first_failing_of, is_between,
-};
+use crate::conditions::{first_failing_of, is_between};
 use clu_tree::Program;
-use node_core::{Node, NodeFault};
+use node_core::{Memory, Node, NodeFault};
 use sqlite_items::Items;
 use std::alloc::Global;
 use std::marker::Model;
 use thiserror::Error;
+use world_rules::Condition;
 use world_types::{Entry, Event, Told};
 
 #[derive(Debug, Drop, Error)]
@@ -47,7 +44,16 @@ impl<'p> Model for DebugWorld<'p> {
 
     ghost Value = { Seen };
 
-    ghost coded = { Prim.hlevel (codes, shape.the_row.coded, named.the_row.coded, expr.the_row.coded, stmt.the_row.coded, arm.the_row.coded, tag_arm.the_row.coded, handlers.the_row.coded) };
+    ghost coded = { Prim.hlevel (
+      codes,
+      shape.the_row.coded,
+      named.the_row.coded,
+      expr.the_row.coded,
+      stmt.the_row.coded,
+      arm.the_row.coded,
+      tag_arm.the_row.coded,
+      handlers.the_row.coded,
+    ) };
 
     ghost view = { λ w. record { program = w.node.program; list = w.list; spent = w.spent } };
 
@@ -56,14 +62,11 @@ impl<'p> Model for DebugWorld<'p> {
 
 impl<'p> DebugWorld<'p> {
     /// The nodes of an accepted program at their start.
-    pub fn new(alloc: Global, program: &'p Program) -> Result<DebugWorld<'p>, WorldFault>
+    pub fn new(alloc: Global, program: &'p Program) -> Result<DebugWorld<'p>, Memory>
         requires { IsTyped program.now }
         ensures fresh { IfOk result (λ world. world ≡ record { program = program.now; list = []; spent = false }) }
-        ensures memory { (number : ℕ) → result ≢ Err (WorldFault.Illegal number) }
     {
-        let Ok(node) = Node::new(alloc, program, 1) else {
-            return Err(WorldFault::Memory);
-        };
+        let node = Node::new(alloc, program, 1)?;
         Ok(DebugWorld {
             node,
             list: Items::new(alloc),
@@ -175,26 +178,29 @@ impl<'p> DebugWorld<'p> {
     /// The number of the first condition that refuses a turn.
     fn turn_refusal(&self, stamp: u64, node: u32, reading: u64) -> Option<u8>
         requires { self.now.spent ≡ false }
-        ensures { (steps : ℕ) → result ≡ first_failing (rules_of self.now.program) (first_of_program self.now.program) (reverse self.now.list) (turned stamp node steps reading) }
+        ensures { (steps : ℕ) → result ≡ refusal self.now (turned stamp node steps reading) }
     {
         first_failing_of(&[
-            (STAMP_RISES, self.last <= stamp),
-            (NAMES_NODES, node == 1),
-            (READS_IN_TIME, is_between(self.last, reading, stamp)),
-            (IS_DUE, !self.node.due(reading)),
-            (HAS_READY, self.node.is_ready()),
+            (Condition::StampRises, self.last <= stamp),
+            (Condition::NamesNodes, node == 1),
+            (
+                Condition::ReadsInTime,
+                is_between(self.last, reading, stamp),
+            ),
+            (Condition::DueFits, !self.node.due(reading)),
+            (Condition::CanStep, self.node.is_ready()),
         ])
     }
 
     /// The number of the first condition that refuses a tick.
     fn tick_refusal(&self, stamp: u64, node: u32) -> Option<u8>
         requires { self.now.spent ≡ false }
-        ensures { result ≡ first_failing (rules_of self.now.program) (first_of_program self.now.program) (reverse self.now.list) (ticked stamp node) }
+        ensures { result ≡ refusal self.now (ticked stamp node) }
     {
         first_failing_of(&[
-            (STAMP_RISES, self.last <= stamp),
-            (NAMES_NODES, node == 1),
-            (IS_DUE, self.node.due(stamp)),
+            (Condition::StampRises, self.last <= stamp),
+            (Condition::NamesNodes, node == 1),
+            (Condition::DueFits, self.node.due(stamp)),
         ])
     }
 }

@@ -1,9 +1,8 @@
 //! Items that take a value and set, print, wait or drop it.
 
-ghost use Rattle.std.specs.Prelude.{◌≡◌, IfOk, IsSome, if◌then◌else◌, int_le, pos};
+ghost use Rattle.std.specs.Prelude.{◌≡◌, IfOk, IsSome};
 ghost use Rattle.machine_rules.specs.Row as rule;
 ghost use Rattle.machine_rules.specs.World.{World, gives};
-ghost use Rattle.machine_rules.specs.declared.act.Act.TheVariants as act;
 ghost use Rattle.machine_rules.specs.declared.item.Item.TheVariants as item;
 
 use clu_tree::{Text, Value};
@@ -89,19 +88,9 @@ pub fn nap(
     ensures { IfOk result (λ end. rule.row_at w frame frames.old frame.work item.Nap ≡ gives w end.left end.act frames.new) }
 {
     match frame.values.pop() {
-        Some(Value::Int(ms)) => acts(alloc, frames, frame, sleep_of(ms)),
+        Some(Value::Int(ms)) => acts(alloc, frames, frame, Act::Sleep(ms)),
         _ => unreachable!(),
     }
-}
-
-/// The act of a sleep of so many ms: of none, or of less, the process goes on at once.
-fn sleep_of(ms: i64) -> Act
-    ensures { result ≡ (if int_le ms (pos 0) then act.Went else act.Sleep ms) }
-{
-    if ms <= 0 {
-        return Act::Went;
-    }
-    Act::Sleep(ms)
 }
 
 /// The row of `Guard`: what it stands round ended without an exception.

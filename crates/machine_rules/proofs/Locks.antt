@@ -1,6 +1,6 @@
 -- Each row keeps account of the locks that its process holds, and is taken where all objects may change.
 use Rattle.std.proofs.Common.{◌≡◌, ℕ, ◌<◌, ℤ, pos, negsuc, Bool, true, false, not, ◌==◌, if◌then◌else◌, ltb, leb, List, [], ◌∷◌, ◌++◌, length, map, codes, Option, Some, None, slice_get, refl, ap, ◌∙◌, subst, arith}
-use Rattle.std.specs.Prelude.{int_le, int_lt, ◌^◌, ◌+ℤ◌}
+use Rattle.std.specs.Prelude.{int_lt, ◌^◌, ◌+ℤ◌}
 use Rattle.std.proofs.lemmas.Bool.{ltb-true}
 use Rattle.std.proofs.lemmas.List.{append_assoc}
 use Rattle.clu_tree.specs.declared.op.Op.{Op}
@@ -468,10 +468,6 @@ tag_keeps w f fs work values (a ∷ arms) others tag v =
     if_keeps w (all_of work fs) (row.is_tag (out-TagArm a).meant tag) (row.takes_arm w f fs work values v (out-TagArm a).body (out-TagArm a).variable) (row.takes_tag w f fs work values arms others tag v)
     (arm_keeps w f fs work values v (out-TagArm a).body (out-TagArm a).variable) (tag_keeps w f fs work values arms others tag v)
 
-naps_keeps : (w : World) (f : Frame) (fs : List Frame) (work : List Item) (values : List Value) (b : Bool) (ms : ℤ) → Keeps w (all_of work fs) (gives w [] (if b then act.Went else act.Sleep ms) (with f work values ∷ fs))
-naps_keeps w f fs work values true ms = refl
-naps_keeps w f fs work values false ms = refl
-
 grabs_keeps : (w : World) (f : Frame) (fs : List Frame) (work : List Item) (values : List Value) (body : List Stmt) (a : Addr) (b : Bool) → is_held a (all_of work fs) ≡ b →
     Keeps w (all_of work fs) (if b then fails w (codes "lock already held") f fs work else gives w [] (act.Enter a) (with f (map i.Exec body ++ i.Leave a ∷ work) values ∷ fs))
 grabs_keeps w f fs work values body a true is = raises_keeps w (failure (codes "lock already held")) f fs work
@@ -514,7 +510,7 @@ item_keeps w f fs work (i.Assign x) = taking_keeps w _ f.values _ (λ v values. 
 item_keeps w f fs work (i.AssignNode k) = taking_keeps w _ f.values _ (λ v values. sets_node_keeps w f fs work values k v (slice_get w.vars k))
 item_keeps w f fs work i.Discard = taking_keeps w _ f.values _ (λ v values. refl)
 item_keeps w f fs work i.Print = taking_keeps w _ f.values _ (λ v values. on_str_keeps w _ v _ (λ t. refl))
-item_keeps w f fs work i.Nap = taking_keeps w _ f.values _ (λ v values. on_int_keeps w _ v _ (λ ms. naps_keeps w f fs work values (int_le ms (pos 0)) ms))
+item_keeps w f fs work i.Nap = taking_keeps w _ f.values _ (λ v values. on_int_keeps w _ v _ (λ ms. refl))
 item_keeps w f fs work (i.Grab body) = taking_keeps w _ f.values _ (λ v values. on_ref_keeps w _ v _ (λ a. grabs_keeps w f fs work values body a (is_held a (all_of work fs)) refl))
 item_keeps w f fs work (i.Leave a) = refl
 item_keeps w f fs work (i.Spawn k) = taking_args_keeps w (all_of work fs) (slice_get w.program.routines k) f.values _ (λ r args values. refl)

@@ -1,6 +1,6 @@
 -- Typed frames have a row, and the frames that it leaves are typed.
-use Rattle.std.proofs.Common.{◌≡◌, ℕ, ℤ, pos, Bool, true, false, List, [], ◌∷◌, ◌++◌, map, Option, Some, slice_get, if◌then◌else◌, refl, ap, subst}
-use Rattle.std.specs.Prelude.{All, ◌≢◌, int_le}
+use Rattle.std.proofs.Common.{◌≡◌, ℕ, List, [], ◌∷◌, ◌++◌, map, Option, Some, slice_get, refl, ap, subst}
+use Rattle.std.specs.Prelude.{All, ◌≢◌}
 use Rattle.std.proofs.lemmas.List.Elements.{All-get_or, All-head, All-tail}
 use Rattle.std.proofs.lemmas.Option.{get_or_from_slice_get, slice_get_within}
 use Rattle.clu_tree.specs.Typed.{IsTyped, IsTypedLayer, IsTypedRoutine, IsTypedStmt, LayerHas}
@@ -24,7 +24,7 @@ use Rattle.machine_rules.specs.declared.item.Item.TheVariants as i
 use Rattle.machine_rules.specs.declared.frame.Frame.{Frame}
 use Rattle.machine_rules.specs.declared.act.Act.{Act}
 use Rattle.machine_rules.specs.declared.act.Act.TheVariants as act
-use Rattle.machine_rules.specs.Row.{Next, World, with, at_line, line_of, leaves, ends, fall, taking, eval, exec, naps, on_int, on_str, gives, row_at, row_of}
+use Rattle.machine_rules.specs.Row.{Next, World, with, at_line, line_of, leaves, ends, fall, taking, eval, exec, on_int, on_str, gives, row_at, row_of}
 use Rattle.machine_rules.specs.Typing.{ActFits, HasShape, ValuesHave, result_of, ItemFits, WorkFits, BelowFit, IsSound, IsNeverStuck}
 
 -- what is known of the program, of the first frame's routine and of the frames below
@@ -74,14 +74,10 @@ print_sound here us work (value.Char c) vs h hv hw = cc
 print_sound here us work (value.Str text) vs h hv hw = did here (act.Put text) (λ frames h. h) vs us work hv hw
 print_sound here us work (value.Ref at) vs h hv hw = elim h [ ]
 
-nap_fits : (b : Bool) (ms : ℤ) (frames : List Frame) → frames ≢ [] → ActFits (if b then act.Went else act.Sleep ms) frames
-nap_fits true ms frames h = h
-nap_fits false ms frames h = h
-
-nap_sound : {w : World} {p : Program} {r : Routine} {f : Frame} {fs : List Frame} → Here w p r f fs → (us : List Shape) (work : List Item) (v : Value) (vs : List Value) → HasShape v shape.Int → ValuesHave vs us → WorkFits us work → IsSound w p (on_int v (naps w (with f work vs ∷ fs)))
+nap_sound : {w : World} {p : Program} {r : Routine} {f : Frame} {fs : List Frame} → Here w p r f fs → (us : List Shape) (work : List Item) (v : Value) (vs : List Value) → HasShape v shape.Int → ValuesHave vs us → WorkFits us work → IsSound w p (on_int v (λ ms. gives w [] (act.Sleep ms) (with f work vs ∷ fs)))
 nap_sound here us work value.Nil vs h hv hw = cc
 nap_sound here us work (value.Bool b) vs h hv hw = cc
-nap_sound here us work (value.Int n) vs h hv hw = did here (if int_le n (pos 0) then act.Went else act.Sleep n) (nap_fits (int_le n (pos 0)) n) vs us work hv hw
+nap_sound here us work (value.Int n) vs h hv hw = did here (act.Sleep n) (λ frames h. h) vs us work hv hw
 nap_sound here us work (value.Char c) vs h hv hw = cc
 nap_sound here us work (value.Str text) vs h hv hw = cc
 nap_sound here us work (value.Ref at) vs h hv hw = elim h [ ]

@@ -52,8 +52,8 @@ pub nap : ran 7 (nap_body (pos 100)) ≡ over (nap_body (pos 100)) (act.Sleep (p
 unfolding out-Expr out-Stmt Carrier.out
 nap = refl
 
--- a sleep of no time doesn't wait
-pub no_nap : ran 7 (nap_body (pos 0)) ≡ over (nap_body (pos 0)) (act.Put (codes "up") ∷ act.Ended value.Nil ∷ [])
+-- a sleep of no time is a sleep too: that the process goes on is the node's part
+pub no_nap : ran 7 (nap_body (pos 0)) ≡ over (nap_body (pos 0)) (act.Sleep (pos 0) ∷ act.Put (codes "up") ∷ act.Ended value.Nil ∷ [])
 unfolding out-Expr out-Stmt Carrier.out
 no_nap = refl
 

@@ -2,7 +2,7 @@
 --
 -- What a name or an operator stands for is read off its `meant`. The typing rules say what each means, by names, and a
 -- checked program has its trees filled with just that; so in such a program this is what the names say.
-use Rattle.std.specs.Prelude.{ℕ, ℤ, ◌+ℤ◌, pos, Bool, true, false, if◌then◌else◌, ◌==◌, nat_lt, int_lt, int_le, List, [], ◌∷◌, ◌++◌, length, map, codes, Option, Some, None, slice_get}
+use Rattle.std.specs.Prelude.{ℕ, ℤ, ◌+ℤ◌, pos, Bool, true, false, if◌then◌else◌, ◌==◌, nat_lt, int_lt, List, [], ◌∷◌, ◌++◌, length, map, codes, Option, Some, None, slice_get}
 use Rattle.clu_tree.specs.declared.op.Op.TheVariants as op
 use Rattle.clu_tree.specs.declared.value.Addr.{Addr}
 use Rattle.clu_tree.specs.declared.value.Value.{Value}
@@ -313,10 +313,6 @@ takes_tag w f fs work values (a ∷ arms) others tag v =
 
 -- ---- what the node does
 
--- a sleep of so many ms: of none, or of less, the process goes on at once
-abbrev pub naps : World → List Frame → ℤ → Option Next
-naps w frames ms = gives w [] (if int_le ms (pos 0) then act.Went else act.Sleep ms) frames
-
 -- a lock is entered, and the body and its Leave are put; the process waits with them where the lock isn't free
 abbrev pub grabs : World → Frame → List Frame → List Item → List Value → List Stmt → Addr → Option Next
 grabs w f fs work values body a =
@@ -353,7 +349,7 @@ row_at w f fs work (i.Assign x) = taking f.values (λ v values. sets_local w f f
 row_at w f fs work (i.AssignNode k) = taking f.values (λ v values. sets_node w f fs work values k v (slice_get w.vars k))
 row_at w f fs work i.Discard = taking f.values (λ v values. goes w (with f work values ∷ fs))
 row_at w f fs work i.Print = taking f.values (λ v values. on_str v (λ text. gives w [] (act.Put text) (with f work values ∷ fs)))
-row_at w f fs work i.Nap = taking f.values (λ v values. on_int v (naps w (with f work values ∷ fs)))
+row_at w f fs work i.Nap = taking f.values (λ v values. on_int v (λ ms. gives w [] (act.Sleep ms) (with f work values ∷ fs)))
 row_at w f fs work (i.Grab body) = taking f.values (λ v values. on_ref v (grabs w f fs work values body))
 row_at w f fs work (i.Leave a) = gives w (a ∷ []) act.Went (with f work f.values ∷ fs)
 row_at w f fs work (i.Spawn k) =

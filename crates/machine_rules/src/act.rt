@@ -18,7 +18,7 @@ pub enum Act {
     SetVar(u16, Value),
     /// Prints a line.
     Put(Text),
-    /// Sleeps so many ms, at least one.
+    /// Sleeps so many ms, whatever the number is: at 0 or less the node lets the process go on.
     Sleep(i64),
     /// Enters a lock, or waits for it.
     Enter(Addr),

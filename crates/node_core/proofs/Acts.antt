@@ -1,5 +1,6 @@
 -- What the rows tell of their acts, and one step more of a turn.
-use Rattle.std.proofs.Common.{◌≡◌, ◌≢◌, ◌<◌, inl, inr, ℕ, zero, suc, ◌+◌, Bool, true, false, List, [], ◌∷◌, Option, Some, None, refl, sym, ◌∙◌, ap, subst, arith, append-nil, add-one}
+use Rattle.std.specs.Prelude.{int_le}
+use Rattle.std.proofs.Common.{◌≡◌, ◌≢◌, ◌<◌, inl, inr, ℕ, zero, suc, ◌+◌, pos, Bool, true, false, List, [], ◌∷◌, Option, Some, None, refl, sym, ◌∙◌, ap, subst, arith, append-nil, add-one}
 use Rattle.clu_tree.specs.declared.value.Addr.{Addr}
 use Rattle.clu_tree.specs.Typed.{IsTyped}
 use Rattle.clu_tree.specs.declared.program.Program.{Program}
@@ -14,7 +15,7 @@ use Rattle.world_rules.specs.Plain.{and_then, behind, join, nothing}
 use Rattle.world_rules.specs.Node.{Live, NodeState, acted, ready, step_of, steps}
 use Rattle.world_rules.proofs.Erasing.{join-assoc}
 use Rattle.world_rules.proofs.Plainly.{and_then_some}
-use Rattle.node_core.specs.Kept.{state_of}
+use Rattle.node_core.specs.Seen.{state_of}
 use Rattle.node_core.specs.Acts.{IsNoted, RanTo, after_of, left_of, noted}
 use Rattle.node_core.specs.declared.turn.After.{After}
 use Rattle.node_core.specs.declared.turn.After.TheVariants as after
@@ -50,11 +51,11 @@ running n frames t = state_of n (ready 1 frames ∷ []) 1 t
 acted_fits : (n t : ℕ) (was frames : List Frame) (does : Act) → ActFits does frames → acted 1 (running n was t) does frames ≡ Some (state_of n (left_of (after_of t does) frames) 1 t, noted n does)
 acted_fits n t was frames act.Went h = refl
 acted_fits n t was frames (act.Put text) h = refl
-acted_fits n t was frames (act.Sleep ms) h = refl
+acted_fits n t was frames (act.Sleep ms) h = by_test (int_le ms (pos 0)) (λ e. rw e refl) (λ e. rw e refl)
 acted_fits n t was frames (act.Ended v) h = refl
 acted_fits n t was frames does h = elim h [ ]
 
--- a step of the process that is kept
+-- a step of the only process
 pub step_fits : (program : Program) → IsTyped program → (n t : ℕ) (frames : List Frame) → FramesFit program frames → (next : Next) → row (bare_world program t) frames ≡ Some next →
     step_of program 1 (running n frames t) ≡ Some (state_of n (left_of (after_of t next.act) next.frames) 1 t, noted n next.act)
 step_fits program good n t frames fits next h =
@@ -94,7 +95,7 @@ steps_more program p (suc k) s s' s'' x y h one =
 
 -- ---- what a turn has reached after one step more
 
--- so many steps of the process that is kept, and what they leave of it
+-- so many steps of the only process, and what they leave of it
 abbrev pub Took : Program → ℕ → ℕ → ℕ → List Frame → List Live → Effects → Type 0
 Took program n t k was left x = steps program 1 k (running n was t) ≡ Some (state_of n left 1 t, x)
 
@@ -113,7 +114,7 @@ on_fits program good t frames fits g left does h = row_fits program good t frame
 ready_full : (t : ℕ) (does : Act) (g : List Frame) → ActFits does g → after_of t does ≡ after.Ready → g ≢ []
 ready_full t act.Went g h e = h
 ready_full t (act.Put text) g h e = h
-ready_full t (act.Sleep ms) g h e = cc
+ready_full t (act.Sleep ms) g h e = h
 ready_full t (act.Ended v) g h e = cc
 ready_full t does g h e = elim h [ ]
 

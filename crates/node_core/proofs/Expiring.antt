@@ -13,7 +13,7 @@ use Rattle.world_types.specs.declared.effects.Owner.TheVariants as owner
 use Rattle.world_rules.specs.Plain.{nothing}
 use Rattle.world_rules.specs.Node.{NodeState, due, limits, picks, tick}
 use Rattle.node_core.specs.Expiry.{after, by, expired_marks, expiry_of}
-use Rattle.node_core.specs.Kept.{Kept, live, own_limit, queue_of, state_of}
+use Rattle.node_core.specs.Seen.{NodeSeen, live, own_limit, queue_of, state_of}
 use Rattle.node_core.proofs.Acts.{by_test}
 use Rattle.node_core.proofs.Turns.{picks_asleep, seen}
 

@@ -15,7 +15,7 @@ use Rattle.machine_rules.specs.declared.frame.Frame.{Frame}
 use Rattle.machine_rules.specs.Row.{start}
 use Rattle.machine_rules.specs.Typing.{ArgsFit}
 use Rattle.world_rules.specs.Node.{routine_named}
-use Rattle.node_core.specs.Kept.{StartsAs}
+use Rattle.node_core.specs.Seen.{StartsAs}
 
 by_test : {P : Type 0} (b : Bool) → (b ≡ true → P) → (b ≡ false → P) → P
 by_test true h k = h refl

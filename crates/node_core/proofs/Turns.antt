@@ -8,7 +8,7 @@ use Rattle.world_rules.specs.Plain.{Rules, and_then, behind}
 use Rattle.world_rules.specs.Legal.{most}
 use Rattle.world_rules.specs.Node.{NodeState, can_turn, due, picks, ready, rules_of, step_of, steps, turn}
 use Rattle.world_rules.proofs.Plainly.{and_then_some, unmarked-plain}
-use Rattle.node_core.specs.Kept.{Kept, live, most_steps, no_marks, state_of}
+use Rattle.node_core.specs.Seen.{IsUnchanged, NodeSeen, Turns, live, most_steps, no_marks, state_of}
 use Rattle.node_core.specs.Acts.{RanTo}
 use Rattle.node_core.specs.declared.turn.Ran.{Ran}
 use Rattle.node_core.proofs.Acts.{by_test, some_fst}
@@ -137,27 +137,28 @@ taken program n picked time t limit frames ran l one h =
 
 -- ---- what a node answers
 
-abbrev pub seen : Program → NodeState → Bool → Kept
+abbrev pub seen : Program → NodeState → Bool → NodeSeen
 seen program s spent = record { program = program; state = s; spent = spent }
 
-pub refused : (v : Kept) (t limit : ℕ) → v.spent ≡ false → IsRefused v.state t limit → (v.spent ≡ false) × (v ≡ v) × (most_steps v t limit ≡ 0)
-refused v t limit unspent why = (unspent, refl, no_steps v.program v.state t limit why)
+pub refused : (v : NodeSeen) (t limit : ℕ) → v.spent ≡ false → IsRefused v.state t limit → IsUnchanged v v × (most_steps v t limit ≡ 0)
+refused v t limit unspent why = (record { was = unspent; is = refl }, no_steps v.program v.state t limit why)
 
 -- a turn of a node whose process is ready
-pub answered : (v : Kept) (program : Program) (n : ℕ) (process : Option (List Frame)) (o : Option ℕ) (frames : List Frame) (picked time t limit : ℕ) (spent : Bool) (ran : Ran) →
+pub answered : (v : NodeSeen) (program : Program) (n : ℕ) (process : Option (List Frame)) (o : Option ℕ) (frames : List Frame) (picked time t limit : ℕ) (spent : Bool) (ran : Ran) →
     seen program (state_of n (live process o) picked time) spent ≡ v → spent ≡ false → process ≡ Some frames → is_some (picks v.state) ≡ true → time ≤ t → 1 ≤ limit → RanTo program n frames t (min limit 64) ran →
-    (v.spent ≡ false) × (false ≡ false) × (program ≡ v.program) × (ran.steps ≡ most_steps v t limit) × (turn v.program v.state ran.steps t ≡ Some (state_of n (live ran.process ran.asleep) 1 t, ran.effects))
+    Turns v (seen program (state_of n (live ran.process ran.asleep) 1 t) false) t limit (ran.steps, ran.effects)
 answered v program n process o frames picked time t limit spent ran is unspent there is_ready l one h =
     by_limit o (subst (λ (p : Option (List Frame)). seen program (state_of n (live p o) picked time) spent ≡ v) there is)
   where
     by_limit : (o : Option ℕ) → seen program (state_of n (live (Some frames) o) picked time) spent ≡ v →
-        (v.spent ≡ false) × (false ≡ false) × (program ≡ v.program) × (ran.steps ≡ most_steps v t limit) × (turn v.program v.state ran.steps t ≡ Some (state_of n (live ran.process ran.asleep) 1 t, ran.effects))
+        Turns v (seen program (state_of n (live ran.process ran.asleep) 1 t) false) t limit (ran.steps, ran.effects)
     by_limit None is =
-        let k = taken program n picked time t limit frames ran l one h in (
-          sym (ap (λ (k : Kept). k.spent) is) ∙ unspent,
-          refl,
-          ap (λ (k : Kept). k.program) is,
-          subst (λ (k : Kept). ran.steps ≡ most_steps k t limit) is k.most_of,
-          subst (λ (k : Kept). turn k.program k.state ran.steps t ≡ Some (state_of n (live ran.process ran.asleep) 1 t, ran.effects)) is k.turned,
-        )
-    by_limit (Some limit') is = absurd (differ (sym (picks_asleep n picked time limit' frames) ∙ ap (λ (k : Kept). is_some (picks k.state)) is ∙ is_ready))
+        let k = taken program n picked time t limit frames ran l one h in
+        record {
+          was = sym (ap (λ (k : NodeSeen). k.spent) is) ∙ unspent;
+          unspent = refl;
+          program = ap (λ (k : NodeSeen). k.program) is;
+          most = subst (λ (k : NodeSeen). ran.steps ≡ most_steps k t limit) is k.most_of;
+          turned = subst (λ (k : NodeSeen). turn k.program k.state ran.steps t ≡ Some (state_of n (live ran.process ran.asleep) 1 t, ran.effects)) is k.turned;
+        }
+    by_limit (Some limit') is = absurd (differ (sym (picks_asleep n picked time limit' frames) ∙ ap (λ (k : NodeSeen). is_some (picks k.state)) is ∙ is_ready))

@@ -1,3 +1,3 @@
 pub mod Acts
 pub mod Expiry
-pub mod Kept
+pub mod Seen

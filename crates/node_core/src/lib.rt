@@ -8,5 +8,6 @@ mod start;
 mod stepping;
 mod turn;
 
+pub use clu_eval::Memory;
 pub use node::{Node, NodeFault};
 pub use world_types::{Effects, Line, Mark, Owner, Sent};

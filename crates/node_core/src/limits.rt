@@ -2,7 +2,7 @@
 
 ghost use Rattle.std.specs.Prelude.{◌≡◌, [], IfOk, OnOk};
 ghost use Rattle.node_core.specs.Expiry.{after, expiry_of};
-ghost use Rattle.node_core.specs.Kept.{queue_of};
+ghost use Rattle.node_core.specs.Seen.{queue_of};
 
 use crate::turn::PROCESS;
 use std::alloc::{AllocError, Global};
@@ -10,7 +10,7 @@ use timer_queue::{Owner, TimerQueue};
 use world_types::{Effects, Mark};
 
 /// Adds the limit of the only process, if it sleeps.
-pub fn keep_limit(
+pub fn add_limit(
     alloc: Global,
     limits: &mut TimerQueue,
     asleep: Option<u64>,

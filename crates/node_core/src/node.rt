@@ -1,13 +1,13 @@
-ghost use Rattle.std.specs.Prelude.{◌≡◌, ◌≢◌, ◌≤◌, ◌<◌, ◌^◌, [], Err, Some, IfOk, true, false, is_some};
+ghost use Rattle.std.specs.Prelude.{◌≡◌, ◌≢◌, ◌<◌, ◌^◌, [], Err, Some, IfOk, false, is_some};
 ghost use Rattle.clu_tree.specs.Typed.{IsTyped};
 ghost use Rattle.world_rules.specs.Plain.{node_at};
 ghost use Rattle.world_rules.specs.Node.{due, first_of_program, is_quiet, picks};
-ghost use Rattle.node_core.specs.Kept.{TickAnswers, TurnAnswers};
+ghost use Rattle.node_core.specs.Seen.{CanTick, CanTurn, TickAnswers, TurnAnswers};
 
-use crate::limits::{expire, keep_limit};
+use crate::limits::{add_limit, expire};
 use crate::start::started;
 use crate::turn::{PROCESS, Ran, run};
-use clu_eval::Process;
+use clu_eval::{Memory, Process};
 use clu_tree::Program;
 use std::alloc::Global;
 use std::marker::Model;
@@ -46,33 +46,41 @@ impl<'p> Model for Node<'p> {
     ghost use Rattle.clu_tree.specs.contracts.tree.Arm as arm;
     ghost use Rattle.clu_tree.specs.contracts.tree.TagArm as tag_arm;
     ghost use Rattle.clu_tree.specs.contracts.tree.Handlers as handlers;
-    ghost use Rattle.node_core.specs.Kept.{Keeps, Kept, live, own_limit, state_of};
+    ghost use Rattle.node_core.specs.Seen.{Keeps, NodeSeen, live, own_limit, state_of};
 
-    ghost Value = { Kept };
+    ghost Value = { NodeSeen };
 
-    ghost coded = { Prim.hlevel (codes, shape.the_row.coded, named.the_row.coded, expr.the_row.coded, stmt.the_row.coded, arm.the_row.coded, tag_arm.the_row.coded, handlers.the_row.coded) };
+    ghost coded = { Prim.hlevel (
+      codes,
+      shape.the_row.coded,
+      named.the_row.coded,
+      expr.the_row.coded,
+      stmt.the_row.coded,
+      arm.the_row.coded,
+      tag_arm.the_row.coded,
+      handlers.the_row.coded,
+    ) };
 
-    ghost view = { λ n. record { program = n.program.now; state = state_of n.number (live n.process (own_limit n.limits)) n.picked n.time; spent = n.spent } };
+    ghost view = { λ n. record {
+      program = n.program.now;
+      state = state_of n.number (live n.process (own_limit n.limits)) n.picked n.time;
+      spent = n.spent;
+    } };
 
     ghost invariant = { λ n. Keeps n.program.now n.process n.limits n.spent };
 }
 
 impl<'p> Node<'p> {
     /// The node of this number, from 1, of an accepted program, at its start.
-    pub fn new(alloc: Global, program: &'p Program, number: u32) -> Result<Node<'p>, NodeFault>
+    pub fn new(alloc: Global, program: &'p Program, number: u32) -> Result<Node<'p>, Memory>
         requires typed { IsTyped program.now }
         requires is_node { number ≡ 1 }
         ensures program { IfOk result (λ node. node.program ≡ program.now) }
         ensures state { IfOk result (λ node. node_at (first_of_program program.now) number ≡ Some (node.state, [])) }
         ensures fresh { IfOk result (λ node. node.spent ≡ false) }
-        ensures memory { result ≢ Err NodeFault.Illegal }
     {
-        let Ok(process) = started(alloc, program) else {
-            return Err(NodeFault::Memory);
-        };
-        let Ok(limits) = TimerQueue::new(alloc) else {
-            return Err(NodeFault::Memory);
-        };
+        let limits = TimerQueue::new(alloc)?;
+        let process = started(alloc, program)?;
         Ok(Node {
             program,
             number,
@@ -90,7 +98,7 @@ impl<'p> Node<'p> {
         requires early { t < 2 ^ 62 }
         ensures answers { TurnAnswers self.old self.new t most result }
         // A ready process can take a step where nothing is due.
-        ensures goes_on { self.old.spent ≡ false → 1 ≤ most → self.old.state.time ≤ t → due self.old.state t ≡ false → is_some (picks self.old.state) ≡ true → result ≢ Err NodeFault.Illegal }
+        ensures goes_on { CanTurn self.old t most → result ≢ Err NodeFault.Illegal }
     {
         if self.spent {
             return Err(NodeFault::Memory);
@@ -111,7 +119,7 @@ impl<'p> Node<'p> {
             steps,
             effects,
         } = ran;
-        let Ok(()) = keep_limit(alloc, &mut self.limits, asleep) else {
+        let Ok(()) = add_limit(alloc, &mut self.limits, asleep) else {
             return Err(NodeFault::Memory);
         };
         self.process = process;
@@ -125,7 +133,7 @@ impl<'p> Node<'p> {
     /// exactly where `t` is below the node's time or no limit is due, and changes nothing.
     pub fn tick(&mut self, alloc: Global, t: u64) -> Result<Effects, NodeFault>
         ensures answers { TickAnswers self.old self.new t result }
-        ensures possible { self.old.spent ≡ false → self.old.state.time ≤ t → due self.old.state t ≡ true → result ≢ Err NodeFault.Illegal }
+        ensures possible { CanTick self.old t → result ≢ Err NodeFault.Illegal }
     {
         if self.spent {
             return Err(NodeFault::Memory);

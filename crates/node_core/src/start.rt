@@ -4,7 +4,7 @@ ghost use Rattle.std.specs.Prelude.{◌≡◌, ◌≤◌, [], Some, IfOk, length
 ghost use Rattle.std.specs.Option.{option_map};
 ghost use Rattle.clu_tree.specs.Typed.{IsTyped};
 ghost use Rattle.world_rules.specs.Node.{routine_named};
-ghost use Rattle.node_core.specs.Kept.{IsRunning, StartsAs};
+ghost use Rattle.node_core.specs.Seen.{IsRunning, StartsAs};
 
 use clu_eval::Process;
 use clu_tree::{NodePart, Program, Routine, Text};

@@ -3,6 +3,7 @@
 ghost use Rattle.std.specs.Prelude.{◌≡◌, ◌≢◌, ◌≤◌, ◌<◌, ◌^◌, [], IfOk, OnOk};
 ghost use Rattle.clu_tree.specs.Typed.{IsTyped};
 ghost use Rattle.machine_rules.specs.Typing.{FramesFit};
+ghost use Rattle.machine_rules.specs.declared.act.Act.TheVariants as act;
 ghost use Rattle.world_rules.specs.Plain.{join};
 ghost use Rattle.node_core.specs.Acts.{IsNoted, RanTo, after_of, noted};
 
@@ -37,6 +38,17 @@ pub struct Ran {
     pub effects: Effects,
 }
 
+/// What a process does behind a sleep of so many ms at the time.
+fn sleep_of(time: u64, ms: i64) -> After
+    requires early { time < 2 ^ 62 }
+    ensures { result ≡ after_of time (act.Sleep ms) }
+{
+    if ms <= 0 {
+        return After::Ready;
+    }
+    After::Asleep(time + ms.unsigned_abs())
+}
+
 /// Adds what a step does at the node to the effects, and answers what the process does behind it.
 fn note(
     alloc: Global,
@@ -57,7 +69,7 @@ fn note(
             effects.lines.push(Line { node: number, text })?;
             Ok(After::Ready)
         }
-        Act::Sleep(ms) => Ok(After::Asleep(time + ms.unsigned_abs())),
+        Act::Sleep(ms) => Ok(sleep_of(time, ms)),
         Act::Ended(_) => {
             effects.marks.push(Mark::Ended(PROCESS))?;
             Ok(After::Over)
@@ -66,26 +78,26 @@ fn note(
     }
 }
 
-/// Takes steps of a process that was picked at the node, up to the limit, its sleep or its end.
+/// Takes steps of a process that was picked at the node, at most so many, up to its sleep or its end.
 pub fn run(
     alloc: Global,
     program: &Program,
     number: u32,
     time: u64,
-    limit: u32,
+    most: u32,
     mut process: Process,
 ) -> Result<Ran, AllocError>
     requires typed { IsTyped program.now }
     requires fits { FramesFit program.now process }
     requires goes_on { process ≢ [] }
-    requires some { 1 ≤ limit }
+    requires some { 1 ≤ most }
     requires early { time < 2 ^ 62 }
-    ensures { IfOk result (λ ran. RanTo program.now number process time limit ran) }
+    ensures { IfOk result (λ ran. RanTo program.now number process time most ran) }
 {
     let mut effects = Effects::nothing(alloc);
     let mut objects = Region::new(alloc)?;
     let mut steps = 0;
-    while steps < limit {
+    while steps < most {
         let StepEnd { left: _, act } = step(alloc, program, time, &mut objects, &mut process)?;
         steps += 1;
         match note(alloc, number, time, &mut effects, act)? {

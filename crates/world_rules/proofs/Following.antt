@@ -9,7 +9,8 @@ use Rattle.world_types.specs.declared.effects.Entry.{Entry}
 use Rattle.world_types.specs.declared.effects.Effects.{Effects}
 use Rattle.world_rules.specs.Plain.{Rules, World, and_then, plain, join, nothing}
 use Rattle.world_rules.specs.Said.{node_of, last_of, last_stamp, rounds, cut, read_by, erased, items, plain_events}
-use Rattle.world_rules.specs.Legal.{Test, first_of, tests, all_tests, first_failing, reached, passed, showing, shown_by, told, tolds, bare, effects_of, LegalPast, Legal, ReadsBy, InTime, SameEffects}
+use Rattle.world_rules.specs.Conditions.{Test, first_of, number_of}
+use Rattle.world_rules.specs.Legal.{tests, all_tests, first_failing, reached, passed, showing, shown_by, told, tolds, bare, effects_of, LegalPast, Legal, ReadsBy, InTime, SameEffects}
 use Rattle.world_rules.proofs.Erasing.{erased-more, events-append, plain-append}
 
 pub by_test : {P : Type 0} (b : Bool) → (b ≡ true → P) → (b ≡ false → P) → P
@@ -24,7 +25,7 @@ pub passes : (ts : List Test) → first_of ts ≡ None → AllPass ts
 passes [] h = tt
 passes (t ∷ ts) h = by_test t.1 (λ e. (e, passes ts (rw e at h))) (λ e. absurd_some (rw e at h))
   where
-    absurd_some : Some t.0 ≡ None → AllPass (t ∷ ts)
+    absurd_some : Some (number_of t.0) ≡ None → AllPass (t ∷ ts)
     absurd_some q = cc
 
 pub none_fails : (ts : List Test) → AllPass ts → first_of ts ≡ None

@@ -1,5 +1,5 @@
 -- What a small program writes, computed.
-use Rattle.std.proofs.Common.{◌≡◌, ℕ, pos, Bool, true, false, List, [], ◌∷◌, ◌++◌, codes, Option, Some, None, is_some, refl, ap, arith}
+use Rattle.std.proofs.Common.{◌≡◌, ℕ, ℤ, pos, negsuc, Bool, true, false, List, [], ◌∷◌, ◌++◌, codes, Option, Some, None, is_some, refl, ap, arith}
 use denote.Hole.Carrier
 use Rattle.std.specs.Fmt.{decimal}
 use Rattle.std.proofs.lemmas.Fmt.{decimal-digits_of}
@@ -33,19 +33,22 @@ greeting = record {
   nodes = record { number = pos 1; parts = part.Start (codes "hello") [] 4 ∷ []; line = 4 } ∷ [];
 }
 
--- a routine that sleeps for 100 ms and prints `up`, started at the node 1
-abbrev pub napping : Program
-napping = record {
+-- a routine that sleeps for so many ms and prints `up`, started at the node 1
+abbrev pub napping : ℤ → Program
+napping ms = record {
   equates = [];
   node_vars = [];
-  routines = record { name = codes "nap"; params = []; result = None; signals = []; body = s.Sleep (e.Literal (value.Int (pos 100)) 2) 2 ∷ s.PutLine (e.Literal (value.Str (codes "up")) 3) 3 ∷ []; line = 1 } ∷ [];
+  routines = record { name = codes "nap"; params = []; result = None; signals = []; body = s.Sleep (e.Literal (value.Int ms) 2) 2 ∷ s.PutLine (e.Literal (value.Str (codes "up")) 3) 3 ∷ []; line = 1 } ∷ [];
   clusters = [];
   nodes = record { number = pos 1; parts = part.Start (codes "nap") [] 5 ∷ []; line = 5 } ∷ [];
 }
 
--- the events are possible, each after those before it
+-- the events are possible, each after those before it, where the sleep is of so many ms
+abbrev sleeping : ℤ → List PlainEvent → Bool
+sleeping ms events = is_some (plain (rules_of (napping ms)) (first_of_program (napping ms)) events)
+
 abbrev can : List PlainEvent → Bool
-can events = is_some (plain (rules_of napping) (first_of_program napping) events)
+can = sleeping (pos 100)
 
 one : decimal 1 ≡ codes "1"
 one = decimal-digits_of 1 (omega arith) (omega arith)
@@ -75,3 +78,16 @@ due = refl
 twice : can (plain_event.Turn 1 3 0 ∷ plain_event.Tick 1 100 ∷ plain_event.Tick 1 100 ∷ []) ≡ false
 unfolding out-Expr out-Stmt Carrier.out
 twice = refl
+
+-- a sleep of 0 ms, or of less, has no limit: the process goes on in the same turn, and nothing is due
+none : sleeping (pos 0) (plain_event.Turn 1 7 0 ∷ []) ≡ true
+unfolding out-Expr out-Stmt Carrier.out
+none = refl
+
+less : sleeping (negsuc 4) (plain_event.Turn 1 7 0 ∷ []) ≡ true
+unfolding out-Expr out-Stmt Carrier.out
+less = refl
+
+no_limit : sleeping (pos 0) (plain_event.Turn 1 3 0 ∷ plain_event.Tick 1 0 ∷ []) ≡ false
+unfolding out-Expr out-Stmt Carrier.out
+no_limit = refl

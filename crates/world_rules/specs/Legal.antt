@@ -8,6 +8,8 @@ use Rattle.world_types.specs.declared.effects.Sent.{Sent}
 use Rattle.world_types.specs.declared.effects.Entry.{Entry}
 use Rattle.world_types.specs.declared.effects.Effects.{Effects}
 use Rattle.world_rules.specs.Plain.{Rules, World, node_at, packet_of, and_then, plain, join, nothing}
+use Rattle.world_rules.specs.declared.condition.Condition.TheVariants as on
+use Rattle.world_rules.specs.Conditions.{Test, first_of}
 use Rattle.world_rules.specs.Said.{node_of, halted, all_halted, last_of, last_stamp, is_open, rounds, cut, read_by, goal, below, turned, marked, asked, none_asked, has_quit, erase, erased, items, plain_events}
 
 -- ---- the world that a list leaves
@@ -78,48 +80,40 @@ names_nodes w (Set n l) = is_node w n
 names_nodes w (Clear n l) = is_node w n
 names_nodes w e = true
 
-abbrev pub Test : Type 0
-Test = ℕ × Bool
-
--- the first number whose condition fails
-abbrev pub first_of : List Test → Option ℕ
-first_of [] = None
-first_of (t ∷ ts) = if t.1 then first_of ts else Some t.0
-
 -- the conditions named for an event, in order, of a node n: the list before says past, it leaves w, and p is what n has passed
 abbrev pub tests : {S : Type 0} → Rules S → World S → Option (ℕ × ℕ) → List Told → ℕ → Event → List Test
 tests rules w p past s (Turn n k r) =
-    (4, not (halted n past)) ∷
-    (9, not (is_open (rounds past)) || not (turned n past)) ∷
-    (10, nat_le (last_of n past) r && (nat_le r s && read_by (rounds past) r)) ∷
-    (22, below (goal past) (cut (rounds past) r)) ∷
-    (11, not (due_at rules w n (cut (rounds past) r))) ∷
-    (12, ready_at rules w n) ∷
-    (13, not (blocked (stands_at rules w n) (marked n past) p)) ∷ []
+    (on.Runs, not (halted n past)) ∷
+    (on.FirstTurn, not (is_open (rounds past)) || not (turned n past)) ∷
+    (on.ReadsInTime, nat_le (last_of n past) r && (nat_le r s && read_by (rounds past) r)) ∷
+    (on.BeforeGoal, below (goal past) (cut (rounds past) r)) ∷
+    (on.DueFits, not (due_at rules w n (cut (rounds past) r))) ∷
+    (on.CanStep, ready_at rules w n) ∷
+    (on.AtMark, not (blocked (stands_at rules w n) (marked n past) p)) ∷ []
 tests rules w p past s (Packet n m j) =
-    (14, is_some (packet_of w n m j)) ∷
-    (15, not (is_open (rounds past)) || halted n past) ∷
-    (22, below (goal past) (cut (rounds past) s) || halted n past) ∷ []
+    (on.WasSent, is_some (packet_of w n m j)) ∷
+    (on.HaltsInRound, not (is_open (rounds past)) || halted n past) ∷
+    (on.BeforeGoal, below (goal past) (cut (rounds past) s) || halted n past) ∷ []
 tests rules w p past s (Tick n) =
-    (4, not (halted n past)) ∷
-    (7, not (is_open (rounds past))) ∷
-    (11, due_at rules w n (cut (rounds past) s)) ∷
-    (22, below (goal past) (cut (rounds past) s)) ∷ []
+    (on.Runs, not (halted n past)) ∷
+    (on.NoRound, not (is_open (rounds past))) ∷
+    (on.DueFits, due_at rules w n (cut (rounds past) s)) ∷
+    (on.BeforeGoal, below (goal past) (cut (rounds past) s)) ∷ []
 tests rules w p past s (Stop n) =
-    (4, not (halted n past)) ∷
-    (11, not (due_at rules w n (cut (rounds past) (last_of n past)))) ∷
-    (12, ready_at rules w n) ∷
-    (13, blocked (stands_at rules w n) (marked n past) p) ∷ []
-tests rules w p past s (Halt n) = (4, not (halted n past)) ∷ (6, is_open (rounds past)) ∷ []
-tests rules w p past s (Resume n) = (5, halted n past) ∷ (7, not (is_open (rounds past))) ∷ []
-tests rules w p past s (Ask n q) = (6, is_open (rounds past)) ∷ (8, all_halted (length w) past) ∷ (16, is_none (asked n past)) ∷ []
-tests rules w p past s (Answer n) = (17, is_some (asked n past)) ∷ []
-tests rules w p past s HaltAll = (7, not (is_open (rounds past))) ∷ []
-tests rules w p past s e = (6, is_open (rounds past)) ∷ (8, all_halted (length w) past) ∷ (18, none_asked (length w) past) ∷ []
+    (on.Runs, not (halted n past)) ∷
+    (on.DueFits, not (due_at rules w n (cut (rounds past) (last_of n past)))) ∷
+    (on.CanStep, ready_at rules w n) ∷
+    (on.AtMark, blocked (stands_at rules w n) (marked n past) p) ∷ []
+tests rules w p past s (Halt n) = (on.Runs, not (halted n past)) ∷ (on.InRound, is_open (rounds past)) ∷ []
+tests rules w p past s (Resume n) = (on.Halts, halted n past) ∷ (on.NoRound, not (is_open (rounds past))) ∷ []
+tests rules w p past s (Ask n q) = (on.InRound, is_open (rounds past)) ∷ (on.AllHalt, all_halted (length w) past) ∷ (on.NotAsked, is_none (asked n past)) ∷ []
+tests rules w p past s (Answer n) = (on.IsAsked, is_some (asked n past)) ∷ []
+tests rules w p past s HaltAll = (on.NoRound, not (is_open (rounds past))) ∷ []
+tests rules w p past s e = (on.InRound, is_open (rounds past)) ∷ (on.AllHalt, all_halted (length w) past) ∷ (on.NoneAsked, none_asked (length w) past) ∷ []
 
 abbrev pub all_tests : {S : Type 0} → Rules S → World S → Option (ℕ × ℕ) → List Told → Told → List Test
 all_tests rules w p past e =
-    (1, nat_le (last_stamp past) e.stamp) ∷ (2, not (has_quit past)) ∷ (3, names_nodes w e.event) ∷ tests rules w p past e.stamp e.event
+    (on.StampRises, nat_le (last_stamp past) e.stamp) ∷ (on.NotQuit, not (has_quit past)) ∷ (on.NamesNodes, names_nodes w e.event) ∷ tests rules w p past e.stamp e.event
 
 -- the first number that refuses the entry after the list
 abbrev pub first_failing : {S : Type 0} → Rules S → World S → List Told → Told → Option ℕ

@@ -1,5 +1,5 @@
 -- What a node keeps, when it can take steps, and what they do.
-use Rattle.std.specs.Prelude.{ℕ, zero, suc, ◌+◌, nat_abs, Bool, not, ◌&&◌, if◌then◌else◌, ◌==◌, nat_le, List, [], ◌∷◌, length, Option, Some, None, is_none, is_some}
+use Rattle.std.specs.Prelude.{ℕ, zero, suc, ◌+◌, ℤ, pos, nat_abs, int_le, Bool, not, ◌&&◌, if◌then◌else◌, ◌==◌, nat_le, List, [], ◌∷◌, length, Option, Some, None, is_none, is_some}
 use Rattle.std.specs.List.{filter, list_any}
 use Rattle.std.specs.Str.{bytes_eq}
 use Rattle.clu_tree.specs.declared.value.Value.{Value}
@@ -106,13 +106,13 @@ expired (owner.Process n) s = (record s { processes = woken n s.processes }, rec
 expired call s = (s, record nothing { marks = mark.Expired call ∷ [] })
 
 -- the node after what it did first and what it did then, with the effects of both
-abbrev pub joined : NodeState × Effects → (NodeState → NodeState × Effects) → NodeState × Effects
-joined a next = ((next a.0).0, join a.1 (next a.0).1)
+abbrev pub followed_by : NodeState × Effects → (NodeState → NodeState × Effects) → NodeState × Effects
+followed_by a next = ((next a.0).0, join a.1 (next a.0).1)
 
 -- these limits expire one after the other
 abbrev pub expire : List Limit → NodeState → NodeState × Effects
 expire [] s = (s, nothing)
-expire (l ∷ ls) s = joined (expired l.1 s) (expire ls)
+expire (l ∷ ls) s = followed_by (expired l.1 s) (expire ls)
 
 -- the node advances to t: its time is t, and all limits at or before t expire in their order
 abbrev pub advance : NodeState → ℕ → NodeState × Effects
@@ -132,12 +132,16 @@ is_quiet s = is_none (picks s) && (length (limits s.processes) == 0)
 
 -- ---- steps
 
--- what a step of the process p did to its node; a sleep's limit counts from the node's time
+-- the process sleeps for so many ms from the time t; at 0 or less it goes on
+abbrev pub napping : ℕ → ℕ → ℤ → List Frame → Live
+napping p t ms frames = if int_le ms (pos 0) then ready p frames else asleep p (t + nat_abs ms) frames
+
+-- what a step of the process p did to its node
 abbrev pub acted : ℕ → NodeState → Act → List Frame → Option (NodeState × Effects)
 acted p s act.Went frames = Some (record s { processes = with_process (ready p frames) s.processes }, nothing)
 acted p s (act.Put text) frames =
     Some (record s { processes = with_process (ready p frames) s.processes }, record nothing { lines = record { node = s.number; text = line_text s.number text } ∷ [] })
-acted p s (act.Sleep ms) frames = Some (record s { processes = with_process (asleep p (s.time + nat_abs ms) frames) s.processes }, nothing)
+acted p s (act.Sleep ms) frames = Some (record s { processes = with_process (napping p s.time ms frames) s.processes }, nothing)
 acted p s (act.Ended value) frames = Some (record s { processes = without p s.processes }, record nothing { marks = mark.Ended p ∷ [] })
 acted p s does frames = None
 

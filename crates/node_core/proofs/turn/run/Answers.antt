@@ -9,7 +9,7 @@ note-requires-clause-noted c =
 
 pub returns-in-Asleep : goal.returns-in-Asleep
 returns-in-Asleep c =
-    sleeps c.args.program.now c.args.number c.args.time c.loop-steps.steps c.args.limit c.in-Asleep.until c.args.process c.step.new.process c.in_ok-act.field-0.act c.note.new.effects
+    sleeps c.args.program.now c.args.number c.args.time c.loop-steps.steps c.args.most c.in-Asleep.until c.args.process c.step.new.process c.in_ok-act.field-0.act c.note.new.effects
     (record {
       took = took_more c.args.program.now c.requires.typed c.args.number c.args.time c.loop-steps.steps c.args.process c.loop-steps.process c.loop-steps.invariant.fits c.step.new.process c.in_ok-act.field-0.left c.in_ok-act.field-0.act c.loop-steps.effects c.note.new.effects
           c.loop-steps.invariant.taken c.in_ok-act.ensures.row c.in_ok-note.ensures.effects;
@@ -20,7 +20,7 @@ returns-in-Asleep c =
 
 pub returns-in-Over : goal.returns-in-Over
 returns-in-Over c =
-    is_over c.args.program.now c.args.number c.args.time c.loop-steps.steps c.args.limit c.args.process c.step.new.process c.in_ok-act.field-0.act c.note.new.effects
+    is_over c.args.program.now c.args.number c.args.time c.loop-steps.steps c.args.most c.args.process c.step.new.process c.in_ok-act.field-0.act c.note.new.effects
     (record {
       took = took_more c.args.program.now c.requires.typed c.args.number c.args.time c.loop-steps.steps c.args.process c.loop-steps.process c.loop-steps.invariant.fits c.step.new.process c.in_ok-act.field-0.left c.in_ok-act.field-0.act c.loop-steps.effects c.note.new.effects
           c.loop-steps.invariant.taken c.in_ok-act.ensures.row c.in_ok-note.ensures.effects;

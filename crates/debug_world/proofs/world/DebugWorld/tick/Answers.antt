@@ -13,7 +13,7 @@ unreachable-requires c =
     let i = c.self.inside in
     let can = can_tick c.args.self.now i.node i.list i.last c.args.stamp c.args.node
     (met c.args.self.now i.node i.list i.last i.spent (ticked c.args.stamp c.args.node) c.tick_refusal.result c.self.view_is c.if-self.false c.self.invariant (sym c.in_default.is) c.tick_refusal.ensures) in
-    (rw c.in-Err-Illegal.field-0-is at c.in-Err-Illegal.ensures.possible) can.0 can.1 can.2 refl
+    (rw c.in-Err-Illegal.field-0-is at c.in-Err-Illegal.ensures.possible) can refl
 
 pub invariant_of-self-2 : goal.invariant_of-self-2
 invariant_of-self-2 c =
@@ -21,7 +21,7 @@ invariant_of-self-2 c =
     let t = c.in-Ok.ensures.answers in
     (added_tick c.args.self.now i.node c.tick.new.self i.list c.push.new.self i.last c.args.stamp c.args.node c.in-Ok.effects
     (met c.args.self.now i.node i.list i.last i.spent (ticked c.args.stamp c.args.node) c.tick_refusal.result c.self.view_is c.if-self.false c.self.invariant (sym c.in_default.is) c.tick_refusal.ensures)
-    t.1 t.2 t.3 c.in-Ok-push.ensures.ok).keeps
+    t.unspent t.program t.ticked c.in-Ok-push.ensures.ok).keeps
 
 pub returns : goal.returns
 returns c =
@@ -29,4 +29,4 @@ returns c =
     let t = c.in-Ok.ensures.answers in
     (added_tick c.args.self.now i.node c.tick.new.self i.list c.push.new.self i.last c.args.stamp c.args.node c.in-Ok.effects
     (met c.args.self.now i.node i.list i.last i.spent (ticked c.args.stamp c.args.node) c.tick_refusal.result c.self.view_is c.if-self.false c.self.invariant (sym c.in_default.is) c.tick_refusal.ensures)
-    t.1 t.2 t.3 c.in-Ok-push.ensures.ok).adds
+    t.unspent t.program t.ticked c.in-Ok-push.ensures.ok).adds

@@ -20,9 +20,9 @@ turn-requires c =
 pub unreachable-requires : goal.unreachable-requires
 unreachable-requires c =
     let i = c.self.inside in
-    let can = can_turn c.args.self.now i.node i.list i.last c.args.stamp c.args.node c.args.reading c.args.steps
+    let can = can_turn c.args.self.now i.node i.list i.last c.args.stamp c.args.node c.args.reading c.args.steps c.requires.some
     (met c.args.self.now i.node i.list i.last i.spent (turned c.args.stamp c.args.node c.args.steps c.args.reading) c.turn_refusal.result c.self.view_is c.if-self.false c.self.invariant (sym c.in_default.is) (c.turn_refusal.ensures c.args.steps)) in
-    (rw c.in-Err-Illegal.field-0-is at c.in-Err-Illegal.ensures.goes_on) can.0 c.requires.some can.1 can.2 can.3 refl
+    (rw c.in-Err-Illegal.field-0-is at c.in-Err-Illegal.ensures.goes_on) can refl
 
 pub invariant_of-self-2 : goal.invariant_of-self-2
 invariant_of-self-2 c =
@@ -30,7 +30,7 @@ invariant_of-self-2 c =
     let t = c.in-Ok.ensures.answers in
     (added_turn c.args.self.now i.node c.turn.new.self i.list c.push.new.self i.last c.args.stamp c.args.node c.args.reading c.args.steps c.in-Ok.taken.0 c.in-Ok.taken.1
     (met c.args.self.now i.node i.list i.last i.spent (turned c.args.stamp c.args.node c.args.steps c.args.reading) c.turn_refusal.result c.self.view_is c.if-self.false c.self.invariant (sym c.in_default.is) (c.turn_refusal.ensures c.args.steps))
-    t.1 t.2 t.3 t.4 c.in-Ok-push.ensures.ok).keeps
+    t.unspent t.program t.most t.turned c.in-Ok-push.ensures.ok).keeps
 
 pub returns : goal.returns
 returns c =
@@ -38,4 +38,4 @@ returns c =
     let t = c.in-Ok.ensures.answers in
     (added_turn c.args.self.now i.node c.turn.new.self i.list c.push.new.self i.last c.args.stamp c.args.node c.args.reading c.args.steps c.in-Ok.taken.0 c.in-Ok.taken.1
     (met c.args.self.now i.node i.list i.last i.spent (turned c.args.stamp c.args.node c.args.steps c.args.reading) c.turn_refusal.result c.self.view_is c.if-self.false c.self.invariant (sym c.in_default.is) (c.turn_refusal.ensures c.args.steps))
-    t.1 t.2 t.3 t.4 c.in-Ok-push.ensures.ok).adds
+    t.unspent t.program t.most t.turned c.in-Ok-push.ensures.ok).adds
