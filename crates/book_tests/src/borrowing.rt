@@ -2,12 +2,12 @@
 ghost use denote.Param.Send.{IsSync};
 ghost use Rattle.std.specs.Prelude.{◌≡◌, ◌++◌, ◌∷◌, [], true, false};
 
-use crate::{Book, Kept, Pass};
 use std::collections::LinkedList;
 use std::snapshot::Snapshot;
 use std::sync::Wait;
 use std::test::Fail;
 use std::thread::{self, Promise, Scope, Threads};
+use turn_book::{Book, Kept, Pass};
 
 trait Ticks: Send + Drop {
     fn read(&mut self) -> u64;

@@ -1,14 +1,13 @@
+// A log in which threads enter numbers.
 ghost use Rattle.std.specs.Prelude.{◌≡◌, ◌+◌, []};
 ghost use Rattle.std.specs.Arc.{arc_value};
 
-mod borrowing;
-
-use crate::{Book, Kept, Pass};
 use std::alloc::Global;
 use std::snapshot::Snapshot;
 use std::sync::{Arc, Wait};
 use std::test::Fail;
 use std::thread::{self, Builder, Promise, Threads};
+use turn_book::{Book, Kept, Pass};
 
 #[derive(Drop)]
 struct Log {
