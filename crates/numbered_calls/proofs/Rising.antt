@@ -14,7 +14,7 @@ use Rattle.std.proofs.lemmas.Option.{none-some, same_Some}
 use Rattle.std.specs.Option.{option_copied, option_map, option_map_or}
 use Rattle.indexmap.specs.IndexMap.{IndexMap, insert_entry}
 use Rattle.indexmap.proofs.CallerLemmas.{insert_entry-new}
-use Rattle.numbered_calls.specs.Calls.{Calls, AreNumbered, IsFloor, IsGiven, IsPending, floor_of, call_at, with_call, without}
+use Rattle.numbered_calls.specs.Calls.{Calls, AreNumbered, IsFloor, IsGiven, IsPending, call_at, with_call, without}
 use Rattle.numbered_calls.specs.declared.calls.Asked.{Asked}
 use Rattle.numbered_calls.specs.Numbers.{Rise}
 use Rattle.numbered_calls.proofs.Maps.{get-of_entries, of_entries-insert, of_entries-remove}

@@ -1,6 +1,6 @@
 use Rattle.std.proofs.Common.{None, Some, ◌∙◌, sym, subst, refl}
-use Rattle.std.specs.Prelude.{IsSome, IfSome}
-use Rattle.numbered_calls.specs.Calls.{AreNumbered, IsAt, IsGiven, IsPending}
+use Rattle.std.specs.Prelude.{IsSome}
+use Rattle.numbered_calls.specs.Calls.{AreNumbered, IsAt, IsPending}
 use Rattle.numbered_calls.proofs.Maps.{get-of_entries}
 use Rattle.numbered_calls.proofs.Rising.{are_numbered, call_at_is}
 use Rattle.numbered_calls.proofs.calls.NumberedCalls.at.Goals as goal

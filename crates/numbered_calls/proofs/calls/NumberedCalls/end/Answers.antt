@@ -1,4 +1,4 @@
-use Rattle.std.proofs.Common.{◌∙◌, ap, subst, sym, nat_eq, is_some, rules}
+use Rattle.std.proofs.Common.{◌∙◌, ap, subst, sym, is_some, rules}
 use Rattle.std.specs.FinMap as map
 use Rattle.numbered_calls.specs.Calls.{without}
 use Rattle.numbered_calls.specs.Numbers.{Rise}
