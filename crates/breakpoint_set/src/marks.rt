@@ -59,6 +59,3 @@ impl Marks {
         self.lines.contains(&line)
     }
 }
-
-#[cfg(test)]
-mod tests;

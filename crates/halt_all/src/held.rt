@@ -47,6 +47,3 @@ impl Held {
         mem::replace(&mut self.packets, Vec::new(alloc))
     }
 }
-
-#[cfg(test)]
-mod tests;

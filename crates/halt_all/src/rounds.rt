@@ -67,7 +67,8 @@ impl Rounds {
 
     /// Whether each node is halted.
     pub fn all_halted(&self) -> bool
-        ensures { IsTrue result ↔ ((node : ℕ) → 1 ≤ node → node ≤ self.now.nodes → IsTrue (set.contains self.now.halted node)) }
+        ensures { IsTrue result
+            ↔ ((node : ℕ) → 1 ≤ node → node ≤ self.now.nodes → IsTrue (set.contains self.now.halted node)) }
     {
         self.halted.iter().all(|halted| *halted)
     }
@@ -88,6 +89,3 @@ impl Rounds {
         self.rounds.last()?.begun_at()
     }
 }
-
-#[cfg(test)]
-mod tests;

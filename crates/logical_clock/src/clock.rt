@@ -53,7 +53,8 @@ impl LogicalClock {
     pub fn tell_close(&mut self, b: u64)
         requires in_time { self.old.last ≤ b }
         requires one_open { IsSome self.old.opening }
-        ensures values { IfSome self.old.opening (λ a. self.new ≡ record { total = self.old.total + (b - a); opening = None; last = b }) }
+        ensures values { IfSome self.old.opening (λ a.
+            self.new ≡ record { total = self.old.total + (b - a); opening = None; last = b }) }
         ensures stands { (rounds : List Round) → StandsFor self.old rounds → StandsFor self.new (closed b rounds) }
     {
         // While a round is open, the last stamp told is its opening.
@@ -72,6 +73,3 @@ impl LogicalClock {
         self.opening.unwrap_or(t) - self.total
     }
 }
-
-#[cfg(test)]
-mod tests;

@@ -1,7 +1,6 @@
 -- Counts of copies, and the entries that they come from.
 use Rattle.std.proofs.Common.{◌≡◌, ℕ, suc, ◌+◌, ◌<◌, Bool, true, false, List, [], ◌∷◌, get_or, refl, arith}
 use Rattle.std.specs.List.{All}
-use Rattle.std.proofs.lemmas.Bool.Decides.{nat_tests}
 use Rattle.std.proofs.lemmas.List.Sums.{sum_by-cons, get_or-le-sum_by}
 use Rattle.lossy_net.specs.declared.copies.Copies.{Copies}
 use Rattle.lossy_net.specs.Copies.{are_of, left_of, copies_left}
@@ -28,13 +27,6 @@ some_entry (c ∷ net) t f i left = entry_by (are_of t f i c) c net t f i refl (
 
 left_same : (t f i : ℕ) (c : Copies) → are_of t f i c ≡ true → left_of t f i c ≡ c.left
 left_same t f i c is_of = rw is_of refl
-
-left_other : (t f i a b n : ℕ) (c : Copies) → are_of t f i c ≡ true → ¬ ((a ≡ t) × (b ≡ f) × (n ≡ i)) → left_of a b n c ≡ 0
-left_other t f i a b n c is_of apart = none (are_of a b n c) refl
-  where
-    none : (is : Bool) → are_of a b n c ≡ is → left_of a b n c ≡ 0
-    none true e = absurd (apart (grind (arith, nat_tests), grind (arith, nat_tests), grind (arith, nat_tests)))
-    none false e = rw e refl
 
 -- an entry that has a copy left is counted
 pub entry_counts : (net : List Copies) (t f i k : ℕ) → StandAt net t f i k → All (λ c. 0 < c.left) net → 0 < copies_left net t f i

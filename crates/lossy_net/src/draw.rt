@@ -14,34 +14,3 @@ pub fn fate(word: u32, loss: u32, repeat: u32) -> u8
         1
     }
 }
-
-#[cfg(test)]
-mod tests {
-    use super::fate;
-
-    /// A word, a loss and a repetition, and the copies that arrive.
-    #[test]
-    fn draws_none_two_or_one(rt: HostRuntime) {
-        for (word, loss, repeat, copies) in [
-            (49_099, 100, 50, 0),
-            (49_100, 100, 50, 2),
-            (51_100, 100, 50, 1),
-            (50_100, 100, 50, 1),
-            (0, 0, 0, 1),
-            (0, 0, 1, 2),
-            (0, 1, 1, 0),
-            (999_999, 1000, 1000, 0),
-            (999_999, 999, 1000, 2),
-            (999_999, 999, 999, 1),
-            (4_294_967_295, 295, 968, 2),
-            (4_294_967_295, 295, 967, 1),
-            (4_294_967_295, 296, 968, 0),
-        ] {
-            assert_eq!(rt;
-                fate(word, loss, repeat),
-                copies,
-                "word {word}, loss {loss}, repeat {repeat}"
-            );
-        }
-    }
-}

@@ -105,6 +105,3 @@ impl Net {
         self.copies.is_empty()
     }
 }
-
-#[cfg(test)]
-mod tests;

@@ -1,4 +1,3 @@
 mod Kept
 mod Maps
-mod OneLock
 mod Queues

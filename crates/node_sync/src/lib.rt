@@ -4,8 +4,6 @@
 mod critical_region;
 mod memory;
 mod node_sync;
-#[cfg(test)]
-mod tests;
 mod timed_semaphore;
 
 pub use clu_tree::Addr;

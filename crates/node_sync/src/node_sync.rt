@@ -102,7 +102,8 @@ impl NodeSync {
     /// exactly where the count is 2^62, and then all is as before.
     pub fn signal(&mut self, at: Addr) -> SignalEnd
         requires { IsSemaphoreAt self.old at.0 }
-        ensures woke { (pid : ℕ) → (result ≡ SignalEnd.Woke pid) ↔ (slice_get (semaphore_at self.old at.0).waiting 0 ≡ Some pid) }
+        ensures woke { (pid : ℕ)
+            → (result ≡ SignalEnd.Woke pid) ↔ (slice_get (semaphore_at self.old at.0).waiting 0 ≡ Some pid) }
         ensures at_limit { (result ≡ SignalEnd.AtLimit) ↔ ((semaphore_at self.old at.0).count ≡ 2 ^ 62) }
         ensures signalled { self.new ≡ with_semaphore self.old at.0 (signalled (semaphore_at self.old at.0) result) }
         ensures in_order { AreInOrder self.new }
@@ -117,7 +118,8 @@ impl NodeSync {
         requires made { IsSemaphoreAt self.old at.0 }
         requires waits { WaitsNowhere self.old pid }
         ensures taken { IfOk result (λ end. (end ≡ WaitEnd.Taken) ↔ (0 < (semaphore_at self.old at.0).count)) }
-        ensures ok { IfOk result (λ end. self.new ≡ with_semaphore self.old at.0 (waited (semaphore_at self.old at.0) pid end)) }
+        ensures ok { IfOk result (λ end.
+            self.new ≡ with_semaphore self.old at.0 (waited (semaphore_at self.old at.0) pid end)) }
         ensures err { OnErr result (self.new ≡ self.old) }
         ensures in_order { AreInOrder self.new }
     {

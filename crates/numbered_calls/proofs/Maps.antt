@@ -1,13 +1,13 @@
 -- The entries of a hash map under numbers, and the finite map that they make.
-use Rattle.std.proofs.Common.{◌≡◌, ℕ, Bool, true, false, cond, eqb, List, [], ◌∷◌, Some, None, refl, sym, ap, ◌∙◌, nat_eq, arith, inl, inr}
+use Rattle.std.proofs.Common.{◌≡◌, ℕ, Bool, true, false, cond, eqb, filter, List, [], ◌∷◌, Option, Some, None, refl, sym, ap, ◌∙◌, nat_eq, arith, inl, inr}
 use Rattle.std.specs.Cmp.{nat_cmp_total, nat_eq_equiv}
 use Rattle.std.specs.Map.{lookup}
 use Rattle.std.specs.Ordering.{nat_cmp, eq_by_cmp}
 use Rattle.std.specs.FinMap as map
-use Rattle.std.specs.FinMap.{find, get-from_entries, get-insert, get-remove, same_map, nat_cmp-IsAntisymmetric}
-use Rattle.std.proofs.lemmas.Bool.{cases_lt, lt-ltb, le-ltb, ne_eqb}
+use Rattle.std.specs.FinMap.{find, get-from_entries, get-insert, get-remove, get-retain_keys, same_map, nat_cmp-IsAntisymmetric}
+use Rattle.std.proofs.lemmas.Bool.{cases_Bool, cases_lt, eqb-true, lt-ltb, le-ltb, ne_eqb}
 
-pub nat_ties : (a b : ℕ) → eq_by_cmp nat_cmp a b ≡ nat_eq a b
+nat_ties : (a b : ℕ) → eq_by_cmp nat_cmp a b ≡ nat_eq a b
 nat_ties a b =
     elim (cases_lt a b) [
       | inl below ↦ rw (lt-ltb a b below, ne_eqb a b (λ e. omega arith)) refl
@@ -47,3 +47,36 @@ module _ {X : Type 0} where
       ∙ ap (λ b. cond b None (lookup (nat_eq q) old)) (nat_eq_equiv.symm k q ∙ sym (nat_ties q k))
       ∙ ap (cond (eq_by_cmp nat_cmp q k) None) (sym (get-of_entries old q))
       ∙ sym (get-remove nat_cmp_total (map.from_entries old) k q))
+
+  lookup-filter : (p : ℕ → Bool) (q : ℕ) (es : List (ℕ × X)) → lookup (nat_eq q) (filter (λ (e : ℕ × X). p e.0) es) ≡ cond (p q) (lookup (nat_eq q) es) None
+  lookup-filter p q [] = both (p q) None
+    where
+      both : (b : Bool) (o : Option X) → o ≡ cond b o o
+      both true o = refl
+      both false o = refl
+  lookup-filter p q (e ∷ es) =
+      let rest = lookup-filter p q es in
+      elim (cases_Bool (nat_eq q e.0)) [
+        | inl same ↦ (let at = ap p (eqb-true q e.0 same) in elim (cases_Bool (p e.0)) [
+          | inl kept ↦ rw (kept, at ∙ kept, same) refl
+          | inr dropped ↦ rw dropped (rest ∙ ap (λ b. cond b (lookup (nat_eq q) es) None) (at ∙ dropped) ∙ sym (ap (λ b. cond b (lookup (nat_eq q) (e ∷ es)) None) (at ∙ dropped)))
+        ])
+        | inr other ↦ elim (cases_Bool (p e.0)) [
+          | inl kept ↦ rw (kept, other) rest
+          | inr dropped ↦ rw (dropped, other) rest
+        ]
+      ]
+
+  pub get-retained : (m : map.FinMap nat_cmp X) (p : ℕ → Bool) (q : ℕ) → map.get (map.retain_keys m p) q ≡ cond (p q) (map.get m q) None
+  get-retained m p q = get-retain_keys m p q (λ x tie. ap p (sym (nat_cmp-IsAntisymmetric q x tie)))
+
+  pub get-inserted : (m : map.FinMap nat_cmp X) (k : ℕ) (v : X) (q : ℕ) → map.get (map.insert m k v) q ≡ cond (nat_eq q k) (Some v) (map.get m q)
+  get-inserted m k v q = get-insert nat_cmp_total m k v q ∙ ap (λ b. cond b (Some v) (map.get m q)) (nat_ties q k)
+
+  -- the entries whose number passes the test
+  pub of_entries-filter : (es : List (ℕ × X)) (p : ℕ → Bool) → map.from_entries {R = nat_cmp} (filter (λ (e : ℕ × X). p e.0) es) ≡ map.retain_keys (map.from_entries es) p
+  of_entries-filter es p =
+      same_numbers _ _ (λ q. get-of_entries (filter (λ (e : ℕ × X). p e.0) es) q
+      ∙ lookup-filter p q es
+      ∙ ap (λ o. cond (p q) o None) (sym (get-of_entries es q))
+      ∙ sym (get-retained (map.from_entries es) p q))

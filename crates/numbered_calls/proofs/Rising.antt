@@ -11,10 +11,11 @@ use Rattle.std.specs.FinMap.Entries.{put}
 use Rattle.std.proofs.lemmas.Bool.{lt-ltb, eqb-true, eq-eqb, cases_Bool, false≢true}
 use Rattle.std.proofs.lemmas.List.{nil_from_length}
 use Rattle.std.proofs.lemmas.Option.{none-some, same_Some}
-use Rattle.std.specs.Option.{option_copied, option_map_or}
+use Rattle.std.specs.Option.{option_copied, option_map, option_map_or}
 use Rattle.indexmap.specs.IndexMap.{IndexMap, insert_entry}
 use Rattle.indexmap.proofs.CallerLemmas.{insert_entry-new}
-use Rattle.numbered_calls.specs.Calls.{Calls, AreNumbered, IsFloor, IsGiven, IsPending, floor_of, with_call, without}
+use Rattle.numbered_calls.specs.Calls.{Calls, AreNumbered, IsFloor, IsGiven, IsPending, call_at, with_call, without}
+use Rattle.numbered_calls.specs.declared.calls.Asked.{Asked}
 use Rattle.numbered_calls.specs.Numbers.{Rise}
 use Rattle.numbered_calls.proofs.Maps.{get-of_entries, of_entries-insert, of_entries-remove}
 
@@ -74,59 +75,61 @@ module _ {X : Type 0} where
       in_front [] rise = refl
       in_front (d ∷ es) rise = rw (lt-ltb e.0 d.0 rise.0) refl
 
-  -- ---- a client's calls
+-- ---- a client's calls
 
-  abbrev pub seen : ℕ → List (ℕ × X) → Calls X
+module _ {X : Type 0} where
+  abbrev pub seen : ℕ → List (ℕ × Asked X) → Calls X
   seen last es = record { last = last; pending = finmap.from_entries es }
 
-  pub are_numbered : (last : ℕ) (es : List (ℕ × X)) → Rise 0 last es × (last ≤ 2 ^ 62) → AreNumbered (seen last es)
+  pub are_numbered : (last : ℕ) (es : List (ℕ × Asked X)) → Rise 0 last es × (last ≤ 2 ^ 62) → AreNumbered (seen last es)
   are_numbered last es inv = record {
     given = λ seq there. (let given = Rise-given 0 last seq es inv.0 (subst IsSome (get-of_entries es seq) there) in (omega (arith, given.0), given.1));
     limit = inv.1;
   }
 
   -- what is found under a number was given it
-  pub found_given : (calls : Calls X) (seq : ℕ) (found : Option (Bor X)) → AreNumbered calls → option_copied found ≡ finmap.get calls.pending seq → OnSome found (IsGiven calls seq)
+  pub found_given : (calls : Calls X) (seq : ℕ) (found : Option (Bor (Asked X))) → AreNumbered calls → option_copied found ≡ finmap.get calls.pending seq → OnSome found (IsGiven calls seq)
   found_given calls seq None numbered e = tt
   found_given calls seq (Some call) numbered e = numbered.given seq (subst IsSome e refl)
 
-  pub with_call_is : (last : ℕ) (old new : List (ℕ × X)) (call : X) → ((q : ℕ) → lookup (nat_eq q) new ≡ cond (nat_eq (last + 1) q) (Some call) (lookup (nat_eq q) old)) → seen (last + 1) new ≡ with_call (seen last old) call
+  pub with_call_is : (last : ℕ) (old new : List (ℕ × Asked X)) (call : Asked X) → ((q : ℕ) → lookup (nat_eq q) new ≡ cond (nat_eq (last + 1) q) (Some call) (lookup (nat_eq q) old)) → seen (last + 1) new ≡ with_call (seen last old) call
   with_call_is last old new call updates = ap (λ m. record { last = last + 1; pending = m }) (of_entries-insert old new (last + 1) call updates)
 
-  pub without_is : (last seq : ℕ) (old new : List (ℕ × X)) → ((q : ℕ) → lookup (nat_eq q) new ≡ cond (nat_eq seq q) None (lookup (nat_eq q) old)) → seen last new ≡ without (seen last old) seq
+  pub without_is : (last seq : ℕ) (old new : List (ℕ × Asked X)) → ((q : ℕ) → lookup (nat_eq q) new ≡ cond (nat_eq seq q) None (lookup (nat_eq q) old)) → seen last new ≡ without (seen last old) seq
   without_is last seq old new updates = ap (λ m. record { last = last; pending = m }) (of_entries-remove old new seq updates)
 
   -- the next number stands last
-  pub insert_entry-next : {S : Type 0} (m : IndexMap ℕ X S) (last : ℕ) (call : X) → Rise 0 last m.entries → insert_entry nat_eq m.entries (last + 1) call ≡ m.entries ++ (last + 1, call) ∷ []
+  pub insert_entry-next : {S : Type 0} (m : IndexMap ℕ (Asked X) S) (last : ℕ) (call : Asked X) → Rise 0 last m.entries → insert_entry nat_eq m.entries (last + 1) call ≡ m.entries ++ (last + 1, call) ∷ []
   insert_entry-next m last call rise = insert_entry-new nat_eq m (last + 1) call (Rise-absent 0 last (last + 1) m.entries rise (omega arith))
 
-  pub entries_seen : (last : ℕ) (es : List (ℕ × X)) (calls : Calls X) → Rise 0 last es → seen last es ≡ calls → finmap.entries calls.pending ≡ es
+  pub entries_seen : (last : ℕ) (es : List (ℕ × Asked X)) (calls : Calls X) → Rise 0 last es → seen last es ≡ calls → finmap.entries calls.pending ≡ es
   entries_seen last es calls rise e = ap (λ (c : Calls X). finmap.entries c.pending) (sym e) ∙ Rise-entries 0 last es rise
 
-  -- the number and what it is to the calls
-  abbrev Floors : Calls X → ℕ → Type 0
-  Floors calls n = (n ≡ floor_of calls) × IsFloor calls n
+  -- what is found at a place
+  pub call_at_is : (last : ℕ) (es : List (ℕ × Asked X)) (calls : Calls X) (place : ℕ) (found : Option (ℕ × Asked X)) → Rise 0 last es → seen last es ≡ calls → found ≡ slice_get es place → option_map (λ (c : ℕ × Asked X). (c.0, c.1.to, c.1.routine)) found ≡ call_at calls place
+  call_at_is last es calls place found rise is e =
+      ap (option_map (λ (c : ℕ × Asked X). (c.0, c.1.to, c.1.routine))) (e ∙ ap (λ (es : List (ℕ × Asked X)). slice_get es place) (sym (entries_seen last es calls rise is)))
 
-  pub floor_some : (last : ℕ) (es : List (ℕ × X)) (n : ℕ) (v : X) → Rise 0 last es → Some (n, v) ≡ slice_get es 0 → Floors (seen last es) n
-  floor_some last [] n v rise e = absurd (none-some (n, v) (sym e))
-  floor_some last (d ∷ es) n v rise e =
-      let first : n ≡ d.0 = ap (λ (p : ℕ × X). p.0) (same_Some (n, v) d e) in
-      let entries = Rise-entries 0 last (d ∷ es) rise in
-      let here : IsPending (seen last (d ∷ es)) d.0 = subst IsSome (sym (get-of_entries (d ∷ es) d.0 ∙ ap (λ b. cond b (Some d.1) (lookup (nat_eq d.0) es)) (eq-eqb d.0 d.0 refl))) refl in (
-        first ∙ ap (λ (ds : List (ℕ × X)). option_map_or (λ (n : ℕ). n) (slice_get (map (λ (p : ℕ × X). p.0) ds) 0) (last + 1)) (sym entries),
-        subst (IsFloor (seen last (d ∷ es))) (sym first) (record {
-          least = λ q there. Rise-least 0 last q d es rise (subst IsSome (get-of_entries (d ∷ es) q) there);
-          either = inl here;
-        }),
-      )
+  pub floor_some : (last : ℕ) (es : List (ℕ × Asked X)) (n : ℕ) (v : Asked X) → Rise 0 last es × (last ≤ 2 ^ 62) → Some (n, v) ≡ slice_get es 0 → IsFloor (seen last es) n
+  floor_some last [] n v inv e = absurd (none-some (n, v) (sym e))
+  floor_some last (d ∷ es) n v inv e =
+      let first : n ≡ d.0 = ap (λ (p : ℕ × Asked X). p.0) (same_Some (n, v) d e) in
+      let entries = Rise-entries 0 last (d ∷ es) inv.0 in
+      let here : IsPending (seen last (d ∷ es)) d.0 = subst IsSome (sym (get-of_entries (d ∷ es) d.0 ∙ ap (λ b. cond b (Some d.1) (lookup (nat_eq d.0) es)) (eq-eqb d.0 d.0 refl))) refl in
+      subst (IsFloor (seen last (d ∷ es))) (sym first) (record {
+        floor = ap (λ (ds : List (ℕ × Asked X)). option_map_or (λ (n : ℕ). n) (slice_get (map (λ (p : ℕ × Asked X). p.0) ds) 0) (last + 1)) (sym entries);
+        least = λ q there. Rise-least 0 last q d es inv.0 (subst IsSome (get-of_entries (d ∷ es) q) there);
+        either = inl here;
+        numbered = are_numbered last (d ∷ es) inv;
+      })
 
-  pub floor_none : (last : ℕ) (es : List (ℕ × X)) → Rise 0 last es → None ≡ slice_get es 0 → Floors (seen last es) (last + 1)
-  floor_none last [] rise e =
-      let entries = Rise-entries 0 last [] rise in (
-        ap (λ (ds : List (ℕ × X)). option_map_or (λ (n : ℕ). n) (slice_get (map (λ (p : ℕ × X). p.0) ds) 0) (last + 1)) (sym entries),
-        record {
-          least = λ q there. absurd (false≢true (subst IsSome (get-of_entries [] q) there));
-          either = inr (refl, refl);
-        },
-      )
-  floor_none last (d ∷ es) rise e = absurd (none-some d e)
+  pub floor_none : (last : ℕ) (es : List (ℕ × Asked X)) → Rise 0 last es × (last ≤ 2 ^ 62) → None ≡ slice_get es 0 → IsFloor (seen last es) (last + 1)
+  floor_none last [] inv e =
+      let entries = Rise-entries 0 last [] inv.0 in
+      record {
+        floor = ap (λ (ds : List (ℕ × Asked X)). option_map_or (λ (n : ℕ). n) (slice_get (map (λ (p : ℕ × Asked X). p.0) ds) 0) (last + 1)) (sym entries);
+        least = λ q there. absurd (false≢true (subst IsSome (get-of_entries [] q) there));
+        either = inr (refl, refl);
+        numbered = are_numbered last [] inv;
+      }
+  floor_none last (d ∷ es) inv e = absurd (none-some d e)

@@ -4,8 +4,5 @@
 mod calls;
 mod fault;
 
-pub use calls::NumberedCalls;
+pub use calls::{Asked, NumberedCalls};
 pub use fault::StartFault;
-
-#[cfg(test)]
-mod tests;

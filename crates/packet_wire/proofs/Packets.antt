@@ -29,13 +29,23 @@ two_parts bytes a b after rest p q = p ∙ ap (λ r. a ++ r) q ∙ sym (append_a
 
 -- ---- calls
 
+-- what is made of a call's parts: of its request last, of its floor and what follows, and of its head and all that follows
+abbrev of_request : Head → ℕ → Request × List ℕ → Option (Packet × List ℕ)
+of_request h floor r = Some (Call h.from h.to h.seq floor r.0.routine r.0.args, r.1)
+
+abbrev of_floor : Head → ℕ × List ℕ → Option (Packet × List ℕ)
+of_floor h floor = cond (ltb floor.0 1 || ltb h.seq floor.0) None (request_at floor.1 >>= of_request h floor.0)
+
+abbrev of_head : Head × List ℕ → Option (Packet × List ℕ)
+of_head h = number_at w64 h.1 >>= of_floor h.0
+
 call_part : (bytes : List ℕ) (p : Packet) (rest : List ℕ) → IsBytes bytes → call_at bytes ≡ Some (p, rest) → IsTaken 1 bytes (p, rest)
 unfolding call_at
 call_part bytes p rest fits e =
-    let a = step head_part first bytes (p, rest) fits e in
-    let b = step number64 (second a.value) a.rest (p, rest) a.fits a.goes_on in
-    let t = passed (ltb b.value 1 || ltb a.value.seq b.value) (request_at b.rest >>= last a.value b.value) (p, rest) b.goes_on in
-    let c = step request_part (last a.value b.value) b.rest (p, rest) b.fits t.1 in
+    let a = step head_part of_head bytes (p, rest) fits e in
+    let b = step number64 (of_floor a.value) a.rest (p, rest) a.fits a.goes_on in
+    let t = passed (ltb b.value 1 || ltb a.value.seq b.value) (request_at b.rest >>= of_request a.value b.value) (p, rest) b.goes_on in
+    let c = step request_part (of_request a.value b.value) b.rest (p, rest) b.fits t.1 in
     let inside = or_parts _ _ t.0 in
     let h = head a.value.from a.value.to a.value.seq in
     let asked = request c.value.routine c.value.args in
@@ -43,15 +53,6 @@ call_part bytes p rest fits e =
     let made : Packet × List ℕ = (Call a.value.from a.value.to a.value.seq b.value c.value.routine c.value.args, c.rest) in
     let within : IsWithin made.0 = (a.is.0, ltb-false b.value 1 inside.0, ltb-false a.value.seq b.value inside.1, c.is.1) in
     subst (IsTaken 1 bytes) (same_Some made (p, rest) c.goes_on) (ap (λ r. 1 ∷ r) parts, (within, (a.is.1, b.is, c.is.0)))
-  where
-    last : Head → ℕ → Request × List ℕ → Option (Packet × List ℕ)
-    last h floor r = Some (Call h.from h.to h.seq floor r.0.routine r.0.args, r.1)
-
-    second : Head → ℕ × List ℕ → Option (Packet × List ℕ)
-    second h floor = cond (ltb floor.0 1 || ltb h.seq floor.0) None (request_at floor.1 >>= last h floor.0)
-
-    first : Head × List ℕ → Option (Packet × List ℕ)
-    first h = number_at w64 h.1 >>= second h.0
 
 call_again : (from to seq floor routine : ℕ) (args rest : List ℕ) → IsCarried (Call from to seq floor routine args) → call_at ((head from to seq ++ to_be_bytes w64 floor ++ request routine args) ++ rest) ≡ Some (Call from to seq floor routine args, rest)
 unfolding call_at
@@ -60,19 +61,10 @@ call_again from to seq floor routine args rest is =
     let asked = request routine args in
     let regrouped : (head from to seq ++ to_be_bytes w64 floor ++ asked) ++ rest ≡ head from to seq ++ (to_be_bytes w64 floor ++ (asked ++ rest)) = append_assoc (head from to seq ++ to_be_bytes w64 floor) asked rest ∙ append_assoc (head from to seq) (to_be_bytes w64 floor) (asked ++ rest) in
     ap call_at regrouped
-    ∙ step_again head_part first h (to_be_bytes w64 floor ++ (asked ++ rest)) (is.0.0, is.1.0)
-    ∙ step_again number64 (second h) floor (asked ++ rest) is.1.1
-    ∙ ap (λ b. cond b None (request_at (asked ++ rest) >>= last h floor)) (or_from (ltb floor 1) (ltb seq floor) (le-ltb floor 1 is.0.1) (le-ltb seq floor is.0.2))
-    ∙ step_again request_part (last h floor) (record { routine = routine; args = args }) rest (is.1.2, is.0.3)
-  where
-    last : Head → ℕ → Request × List ℕ → Option (Packet × List ℕ)
-    last h floor r = Some (Call h.from h.to h.seq floor r.0.routine r.0.args, r.1)
-
-    second : Head → ℕ × List ℕ → Option (Packet × List ℕ)
-    second h floor = cond (ltb floor.0 1 || ltb h.seq floor.0) None (request_at floor.1 >>= last h floor.0)
-
-    first : Head × List ℕ → Option (Packet × List ℕ)
-    first h = number_at w64 h.1 >>= second h.0
+    ∙ step_again head_part of_head h (to_be_bytes w64 floor ++ (asked ++ rest)) (is.0.0, is.1.0)
+    ∙ step_again number64 (of_floor h) floor (asked ++ rest) is.1.1
+    ∙ ap (λ b. cond b None (request_at (asked ++ rest) >>= of_request h floor)) (or_from (ltb floor 1) (ltb seq floor) (le-ltb floor 1 is.0.1) (le-ltb seq floor is.0.2))
+    ∙ step_again request_part (of_request h floor) (record { routine = routine; args = args }) rest (is.1.2, is.0.3)
 
 -- ---- the kinds with a head and one part behind it
 

@@ -14,6 +14,3 @@ pub use packet::Packet;
 pub use reading::read;
 pub use world_types::{Bytes, Kind, Outcome};
 pub use writing::write;
-
-#[cfg(test)]
-mod tests;

@@ -1,7 +1,7 @@
 use world_types::{Bytes, Outcome};
 
-/// What one node sends another. Nodes are numbered from 1. The calls of a client are numbered from 1, those of each kind
-/// by themselves. Arguments and values are as on the wire.
+/// What one node sends another. Nodes are numbered from 1. The calls of a client are numbered from 1, those of each
+/// kind by themselves. Arguments and values are as on the wire.
 #[derive(Debug, Drop)]
 pub enum Packet {
     /// A call that is to be made exactly once. No number below the floor is pending at the client.

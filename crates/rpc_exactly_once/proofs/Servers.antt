@@ -9,7 +9,7 @@ use Rattle.std.specs.Option.{unwrap_or}
 use Rattle.std.specs.Ordering.{nat_cmp}
 use Rattle.std.proofs.lemmas.Bool.{cases_Bool, eqb-true, eq-eqb, false≢true}
 use Rattle.rpc_exactly_once.specs.Server.{Server, Table, row_of, table_of, unheard, AreAboveFloors, IsPast, NoneBelow, StaysPast}
-use Rattle.rpc_exactly_once.proofs.Maps.{get-inserted, get-of_entries, of_entries-insert, same_numbers}
+use Rattle.numbered_calls.proofs.Maps.{get-inserted, get-of_entries, of_entries-insert, same_numbers}
 
 pub table_found : (es : List (ℕ × Table)) (client : ℕ) (found : Option Table) (now : Server) → map.from_entries es ≡ now → found ≡ lookup (nat_eq client) es → unwrap_or found unheard ≡ table_of now client
 table_found es client found now view e = ap (λ o. unwrap_or o unheard) (e ∙ sym (get-of_entries es client)) ∙ ap (λ s. table_of s client) view

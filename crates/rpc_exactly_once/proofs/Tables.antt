@@ -9,7 +9,7 @@ use Rattle.rpc_exactly_once.specs.declared.row.Arrival.TheVariants.{Begin, Resen
 use Rattle.rpc_exactly_once.specs.declared.row.Row.{Row}
 use Rattle.rpc_exactly_once.specs.declared.row.Row.TheVariants.{Running, Done}
 use Rattle.rpc_exactly_once.specs.Server.{Table, arrival, by_row, is_running, raised, row_of, with_row, IfBegin, IsPast, MayBegin, NoneBelow}
-use Rattle.rpc_exactly_once.proofs.Maps.{get-inserted, get-of_entries, get-retained, of_entries-filter, of_entries-insert, same_numbers}
+use Rattle.numbered_calls.proofs.Maps.{get-inserted, get-of_entries, get-retained, of_entries-filter, of_entries-insert, same_numbers}
 
 abbrev pub seen : ℕ → List (ℕ × Row) → Table
 seen floor es = record { floor = floor; rows = map.from_entries es }

@@ -6,11 +6,8 @@ mod row;
 mod server;
 mod table;
 
-pub use client::{OnceCall, OnceClient};
+pub use client::OnceClient;
 pub use numbered_calls::StartFault;
 pub use packet_wire::{Bytes, Memory, Packet};
 pub use row::{Arrival, Row};
 pub use server::OnceServer;
-
-#[cfg(test)]
-mod tests;

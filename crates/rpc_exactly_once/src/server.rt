@@ -43,8 +43,8 @@ impl OnceServer {
         })
     }
 
-    /// A client's call comes, with the client's floor. Rows below the greatest floor seen are dropped, and then the floor
-    /// and the row of the call say what is to be done. For want of memory all is as before.
+    /// A client's call comes, with the client's floor. Rows below the greatest floor seen are dropped, and then the
+    /// floor and the row of the call say what is to be done. For want of memory all is as before.
     pub fn arrive(
         &mut self,
         alloc: Global,
@@ -73,11 +73,12 @@ impl OnceServer {
         }
     }
 
-    /// The body of a client's call begins. The call has no row, and isn't below the client's floor. For want of memory all
-    /// is as before.
+    /// The body of a client's call begins. The call has no row, and isn't below the client's floor. For want of memory
+    /// all is as before.
     pub fn begun(&mut self, alloc: Global, client: u32, seq: u64) -> Result<(), Memory>
         requires { MayBegin (table_of self.old client) seq }
-        ensures ok { OnOk result (self.new ≡ map.insert self.old client (with_row (table_of self.old client) seq Row.Running)) }
+        ensures ok { OnOk result
+            (self.new ≡ map.insert self.old client (with_row (table_of self.old client) seq Row.Running)) }
         ensures err { OnErr result (self.new ≡ self.old) }
         ensures above { AreAboveFloors self.new }
         ensures begun { OnOk result (IsPast (table_of self.new client) seq) }
@@ -94,8 +95,8 @@ impl OnceServer {
         }
     }
 
-    /// The body of a client's call ended, and this is its reply. False exactly where the call isn't running, and then all
-    /// is as before. For want of memory too.
+    /// The body of a client's call ended, and this is its reply. False exactly where the call isn't running, and then
+    /// all is as before. For want of memory too.
     pub fn done(
         &mut self,
         alloc: Global,
@@ -104,7 +105,8 @@ impl OnceServer {
         reply: Bytes,
     ) -> Result<bool, Memory>
         ensures running { IfOk result (λ ended. ended ≡ is_running (row_of (table_of self.old client) seq)) }
-        ensures ok { IfOk result (λ ended. OnTrue ended (self.new ≡ map.insert self.old client (with_row (table_of self.old client) seq (Row.Done reply)))) }
+        ensures ok { IfOk result (λ ended. OnTrue ended
+            (self.new ≡ map.insert self.old client (with_row (table_of self.old client) seq (Row.Done reply)))) }
         ensures unchanged { IfOk result (λ ended. OnFalse ended (self.new ≡ self.old)) }
         ensures err { OnErr result (self.new ≡ self.old) }
         ensures above { AreAboveFloors self.new }

@@ -1,8 +1,7 @@
--- What is kept of a pending call.
+-- What is kept of a pending call's arguments: nothing.
 use Rattle.std.specs.Prelude.{ℕ, refl}
-use Rattle.std.specs.Coded.{Coded, code_by, coded×, coded_ℕ}
-use Rattle.rpc_maybe.specs.declared.client.MaybeCall.{MaybeCall}
+use Rattle.std.specs.Coded.{Coded, code_by, coded_ℕ}
 
--- a call is stored as the pair of its fields
-abbrev pub call_code : Coded MaybeCall
-call_code = code_by (ℕ × ℕ) (coded× coded_ℕ coded_ℕ) (λ c. (c.to, c.routine)) (λ p. record { to = p.0; routine = p.1 }) (λ _. refl)
+-- stored as any number
+abbrev pub nothing_code : Coded Unit
+nothing_code = code_by ℕ coded_ℕ (λ _. 0) (λ _. tt) (λ _. refl)

@@ -3,9 +3,6 @@
 
 mod client;
 
-pub use client::{MaybeCall, MaybeClient};
+pub use client::MaybeClient;
 pub use numbered_calls::StartFault;
 pub use packet_wire::Memory;
-
-#[cfg(test)]
-mod tests;

@@ -10,6 +10,3 @@ mod view;
 pub use book::{Book, Memory};
 pub use kept::Kept;
 pub use pass::{Busy, Pass};
-
-#[cfg(test)]
-mod tests;

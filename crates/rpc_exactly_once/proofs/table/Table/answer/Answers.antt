@@ -1,9 +1,16 @@
-use Rattle.std.proofs.Common.{◌∙◌, ap, None, Some, sym, subst, ◌≤◌}
+use Rattle.std.proofs.Common.{◌∙◌, ap, None, Some, sym, subst, ◌<◌, ◌≤◌, arith}
 use Rattle.rpc_exactly_once.specs.declared.row.Arrival.TheVariants.{Resend}
 use Rattle.rpc_exactly_once.specs.declared.row.Row.TheVariants.{Running, Done}
 use Rattle.rpc_exactly_once.specs.Server.{Table}
-use Rattle.rpc_exactly_once.proofs.Tables.{answer_above, row_found}
+use Rattle.rpc_exactly_once.proofs.Tables.{answer_above, answer_below, row_found}
 use Rattle.rpc_exactly_once.proofs.table.Table.answer.Goals as goal
+use Rattle.rpc_exactly_once.proofs.table.Table.answer.Goals.{then-seq-floor-via-then-seq-floor, then-seq-floor-via-else-seq-floor+then-seq-self}
+
+pub returns-then-seq-floor-clause-answer : goal.returns-then-seq-floor-clause-answer
+returns-then-seq-floor-clause-answer c = answer_below c.args.self.now c.args.floor c.args.seq (elim c.then-seq-floor.branch [
+  | then-seq-floor-via-then-seq-floor w ↦ omega (arith, w.if-seq-floor.true)
+  | then-seq-floor-via-else-seq-floor+then-seq-self w ↦ (let below = subst (λ (t : Table). c.args.seq < t.floor) c.self.view_is w.if-seq-self.true in omega (arith, below))
+])
 
 pub returns-in-None-clause-answer : goal.returns-in-None-clause-answer
 returns-in-None-clause-answer c =

@@ -1,4 +1,4 @@
-use Rattle.std.proofs.Common.{◌≡◌, ◌∙◌, ap, subst, sym, true}
+use Rattle.std.proofs.Common.{◌≡◌, ◌∙◌, ap, subst, sym, true, rules}
 use Rattle.rpc_exactly_once.specs.declared.row.Row.TheVariants.{Done}
 use Rattle.rpc_exactly_once.specs.Server.{is_running, row_of, with_row, NoneBelow}
 use Rattle.rpc_exactly_once.proofs.Tables.{none_below-with_row, running_above, seen, with_row_is}
@@ -16,3 +16,6 @@ returns-clause-ok c = with_row_is c.self.inside.floor _ _ c.args.seq (Done c.arg
 
 pub returns-clause-above : goal.returns-clause-above
 returns-clause-above c = invariant_of-self-2 c
+
+pub returns-then-not-is_running-clause-running : goal.returns-then-not-is_running-clause-running
+returns-then-not-is_running-clause-running c = search rules
