@@ -87,7 +87,7 @@ pub enum Key {
 }
 
 /// A token as the grammar sees it, with its line, counted from 1.
-#[derive(Debug, Drop)]
+#[derive(Drop)]
 pub enum Lexeme {
     /// A word that isn't reserved.
     Name(Text, u32),

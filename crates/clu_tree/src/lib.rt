@@ -1,7 +1,6 @@
 //! Tokens and syntax trees of programs, as plain data, and the typing rules of the part that runs.
 #![tactic(auto)]
 
-pub mod copies;
 mod lexeme;
 pub mod make;
 mod op;

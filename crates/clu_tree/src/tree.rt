@@ -5,7 +5,7 @@ use crate::value::Value;
 use sqlite_items::{Boxed, Items};
 
 /// What the typing rules make of a name or an operator. It is `Unknown` throughout a tree that was just read.
-#[derive(Clone, Copy, Debug, PartialEq, Eq)]
+#[derive(Clone, Copy, PartialEq, Eq)]
 pub enum Meant {
     Unknown,
     Op(Op),
@@ -21,7 +21,7 @@ pub enum Meant {
 }
 
 /// An operator between two operands. `a ~= b` has none: it is `~(a = b)`.
-#[derive(Clone, Copy, Debug, PartialEq, Eq)]
+#[derive(Clone, Copy, PartialEq, Eq)]
 pub enum Infix {
     Or,
     Cor,
@@ -41,7 +41,7 @@ pub enum Infix {
 }
 
 /// An operator before its operand.
-#[derive(Clone, Copy, Debug, PartialEq, Eq)]
+#[derive(Clone, Copy, PartialEq, Eq)]
 pub enum Prefix {
     Minus,
     Not,

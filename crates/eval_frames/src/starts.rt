@@ -5,11 +5,11 @@ ghost use Rattle.machine_rules.specs.Frames as rule;
 ghost use Rattle.machine_rules.specs.declared.item.Item.TheVariants.{Exec};
 
 use crate::vars::declare;
-use clu_tree::copies::{copy_shape, copy_stmts};
 use clu_tree::{Named, Routine, Stmt, Value};
 use machine_rules::{Frame, Item, Stack, Var};
 use sqlite_items::Items;
 use std::alloc::{AllocError, Global};
+use tree_copies::{copy_shape, copy_stmts};
 
 /// The parameters, each declared as its argument.
 fn bind(alloc: Global, params: &[Named], mut args: Stack<Value>) -> Result<Items<Var>, AllocError>

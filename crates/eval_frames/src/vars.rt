@@ -4,11 +4,11 @@ ghost use Rattle.std.specs.Prelude.{◌≡◌, ◌<◌, None, Some, length, IfSo
 ghost use Rattle.eval_frames.specs.Places.{IsFirst, IsMissing};
 ghost use Rattle.machine_rules.specs.Frames as rule;
 
-use clu_tree::copies::copy_shape;
 use clu_tree::{Shape, Text, Value};
 use machine_rules::Var;
 use sqlite_items::Items;
 use std::alloc::{AllocError, Global};
+use tree_copies::copy_shape;
 
 /// Where the variable of this name stands.
 fn place_of(vars: &[Var], name: &Text) -> Option<usize>

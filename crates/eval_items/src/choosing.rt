@@ -7,12 +7,12 @@ ghost use Rattle.machine_rules.specs.World.{World, gives};
 ghost use Rattle.machine_rules.specs.declared.item.Item.TheVariants as item;
 
 use crate::placing::{evals, evals_then};
-use clu_tree::copies::copy_stmts;
 use clu_tree::{Arm, Expr, Stmt, Value};
 use eval_frames::{adds, goes, put_body, puts};
 use machine_rules::{Frame, Item, Stack, StepEnd};
 use sqlite_items::Items;
 use std::alloc::{AllocError, Global};
+use tree_copies::copy_stmts;
 
 /// The row of `Pick`.
 pub fn pick(

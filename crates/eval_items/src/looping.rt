@@ -6,12 +6,12 @@ ghost use Rattle.machine_rules.specs.Row as rule;
 ghost use Rattle.machine_rules.specs.World.{World, gives};
 ghost use Rattle.machine_rules.specs.declared.item.Item.TheVariants as item;
 
-use clu_tree::copies::{copy_shape, copy_stmts};
 use clu_tree::{Shape, Stmt, Text, Value};
 use eval_frames::{begins, goes};
 use machine_rules::{Frame, Item, Stack, StepEnd};
 use sqlite_items::Items;
 use std::alloc::{AllocError, Global};
+use tree_copies::{copy_shape, copy_stmts};
 
 /// The row of `ForInt`.
 pub fn for_int(

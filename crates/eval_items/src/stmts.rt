@@ -10,12 +10,12 @@ ghost use Rattle.machine_rules.specs.declared.item.Item.TheVariants as item;
 
 use crate::meanings::{asking_maybe, asking_once, receiving, setting, spawning, writing};
 use crate::placing::{evals_then, evals_two, operand, operands, put_three, put_two, two_operands};
-use clu_tree::copies::copy_expr;
 use clu_tree::{Expr, Iter, Meant, Op, Remote, Shape, Sig, Stmt, Target, Text, Value};
 use eval_frames::{declare, ends, goes, leaves, puts, unwind};
 use machine_rules::{Catch, Frame, Item, Stack, StepEnd, Var};
 use sqlite_items::Items;
 use std::alloc::{AllocError, Global};
+use tree_copies::copy_expr;
 
 /// The row of `Exec`.
 pub fn exec(

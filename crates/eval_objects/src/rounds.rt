@@ -7,13 +7,13 @@ ghost use Rattle.machine_rules.specs.World.{World, gives};
 ghost use Rattle.machine_rules.specs.declared.item.Item.TheVariants as i;
 
 use crate::looks::{index_after, low_of};
-use clu_tree::copies::{copy_shape, copy_stmts};
 use clu_tree::{Addr, Shape, Stmt, Text, Value};
 use eval_frames::{begins, goes};
 use machine_rules::{Frame, Item, Stack, StepEnd};
 use obj_region::Store;
 use sqlite_items::Items;
 use std::alloc::{AllocError, Global};
+use tree_copies::{copy_shape, copy_stmts};
 
 /// The row of the item that takes the array.
 pub fn for_each<S: Store>(

@@ -107,15 +107,15 @@ fn questions_are_read_and_written(rt: HostRuntime) -> Result<(), Fail> {
         ),
         (
             b"5 ask 1 print 3 x\n",
-            "5 Ask { node: 1, question: Print { process: 3, name: NameText { items: [120] } } }",
+            "5 Ask { node: 1, question: Print { process: 3, name: ByteString { bytes: [120] } } }",
         ),
         (
             b"5 ask 1 print 3 a_9_\n",
-            "5 Ask { node: 1, question: Print { process: 3, name: NameText { items: [97, 95, 57, 95] } } }",
+            "5 Ask { node: 1, question: Print { process: 3, name: ByteString { bytes: [97, 95, 57, 95] } } }",
         ),
         (
             b"5 ask 1 print 3 end\n",
-            "5 Ask { node: 1, question: Print { process: 3, name: NameText { items: [101, 110, 100] } } }",
+            "5 Ask { node: 1, question: Print { process: 3, name: ByteString { bytes: [101, 110, 100] } } }",
         ),
         (b"5 ask 1 calls\n", "5 Ask { node: 1, question: Calls }"),
         (b"5 ask 1 time\n", "5 Ask { node: 1, question: Time }"),

@@ -62,9 +62,9 @@ pub fn binary(
 ) -> Result<Expr, AllocError>
     ensures { IfOk result (λ x. x ≡ Expr.Binary left op right line meant) }
 {
-    let left = Boxed::new(alloc, left)?;
+    let left = Boxed::new(alloc, left);
     let right = Boxed::new(alloc, right)?;
-    Ok(Expr::Binary(left, op, right, line, meant))
+    Ok(Expr::Binary(left?, op, right, line, meant))
 }
 
 /// `op operand`
@@ -163,7 +163,7 @@ pub fn index(
 ) -> Result<Expr, AllocError>
     ensures { IfOk result (λ x. x ≡ Expr.Index array index line meant) }
 {
-    let array = Boxed::new(alloc, array)?;
+    let array = Boxed::new(alloc, array);
     let index = Boxed::new(alloc, index)?;
-    Ok(Expr::Index(array, index, line, meant))
+    Ok(Expr::Index(array?, index, line, meant))
 }

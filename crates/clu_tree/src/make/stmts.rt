@@ -199,8 +199,13 @@ pub fn region(lock: Expr, body: Items<Stmt>, line: u32) -> Stmt
 pub fn except(alloc: Global, body: Stmt, handlers: Handlers) -> Result<Stmt, AllocError>
     ensures { IfOk result (λ x. x ≡ Stmt.Except body handlers) }
 {
-    let body = Boxed::new(alloc, body)?;
-    Ok(Stmt::Except(body, handlers))
+    match Boxed::new(alloc, body) {
+        Ok(body) => Ok(Stmt::Except(body, handlers)),
+        Err(e) => {
+            drop(handlers);
+            Err(e)
+        }
+    }
 }
 
 /// The handlers of an `except`.
@@ -225,6 +230,11 @@ pub fn when(names: Items<Text>, variable: Option<Named>, body: Items<Stmt>) -> W
 pub fn resignal(alloc: Global, body: Stmt, names: Items<Text>) -> Result<Stmt, AllocError>
     ensures { IfOk result (λ x. x ≡ Stmt.Resignal body names) }
 {
-    let body = Boxed::new(alloc, body)?;
-    Ok(Stmt::Resignal(body, names))
+    match Boxed::new(alloc, body) {
+        Ok(body) => Ok(Stmt::Resignal(body, names)),
+        Err(e) => {
+            drop(names);
+            Err(e)
+        }
+    }
 }
