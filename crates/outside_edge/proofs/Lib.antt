@@ -1,5 +1,3 @@
 mod Filling
-pub mod Loading
 mod Reading
-pub mod Telling
 pub mod Writing

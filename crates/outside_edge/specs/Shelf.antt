@@ -1,5 +1,5 @@
 -- What a shelf tells of itself, and what a load does to it.
-use Rattle.std.specs.Prelude.{◌≡◌, ◌<◌, ◌⊎◌, ℕ, ◌+◌, List, Contains, Option, Some, None, Result, Ok, Err, IfOk, IsErrOf, Vec, find, option_map}
+use Rattle.std.specs.Prelude.{◌≡◌, ◌<◌, ◌⊎◌, ℕ, ◌+◌, ◌-◌, ◌^◌, nat_lt, if◌then◌else◌, List, Contains, Option, Some, None, Result, Ok, Err, IfOk, IsErrOf, Vec, find, option_map}
 use Rattle.std.specs.Str.{bytes_eq}
 use Rattle.std.specs.declared.alloc.Global.{Global}
 use Rattle.outside_edge.specs.Told.{Tells}
@@ -25,6 +25,10 @@ abbrev pub CountsLoad : {T : Type 0} → ℕ → ℕ → Result T LoadFault → 
 CountsLoad before now (Ok x) = now ≡ before
 CountsLoad before now (Err Failed) = before < now
 CountsLoad before now (Err Memory) = now ≡ before
+
+-- what a load answers that fails: Failed, and Memory where the count of faults stands at the end of its type
+abbrev pub fault_at : ℕ → LoadFault
+fault_at faults = if nat_lt faults (2 ^ 64 - 1) then Failed else Memory
 
 -- what a load answered, with the bytes as a list
 abbrev pub bytes_of : Result (Vec ℕ Global) LoadFault → Result (List ℕ) LoadFault

@@ -1,5 +1,5 @@
 -- What a sink tells of itself, and what a put does to it.
-use Rattle.std.specs.Prelude.{◌≡◌, ◌<◌, ℕ, ◌+◌, List, [], ◌++◌, length, Option, Some, None, Result, Ok, Err, OnOk, IsErrOf}
+use Rattle.std.specs.Prelude.{◌≡◌, ◌<◌, ℕ, ◌+◌, ◌-◌, ◌^◌, nat_lt, if◌then◌else◌, List, [], ◌++◌, length, Option, Some, None, Result, Ok, Err, OnOk, IsErrOf}
 use Rattle.outside_edge.specs.Told.{Tells}
 use Rattle.outside_edge.specs.declared.sink.PutFault.{PutFault}
 use Rattle.outside_edge.specs.declared.sink.PutFault.TheVariants.{Failed, Memory}
@@ -55,6 +55,10 @@ abbrev pub CountsPut : {T : Type 0} → ℕ → ℕ → Result T PutFault → Ty
 CountsPut before now (Ok x) = now ≡ before
 CountsPut before now (Err Failed) = before < now
 CountsPut before now (Err Memory) = now ≡ before
+
+-- what a put answers that fails: Failed, and Memory where the count of faults stands at the end of its type
+abbrev pub fault_at : ℕ → PutFault
+fault_at faults = if nat_lt faults (2 ^ 64 - 1) then Failed else Memory
 
 -- what a put of a piece did: it wrote the whole piece at Ok, cut it short at Failed and wrote nothing at Memory
 pub record Puts {T : Type 0} (old new : Option SinkTold) (piece : List ℕ) (result : Result T PutFault) : Type 0 where

@@ -1,6 +1,8 @@
 // Files by name, read whole.
-ghost use Rattle.std.specs.Prelude.{◌≡◌, ◌≤◌, ◌<◌, ◌-◌, ◌^◌, ℕ, Option, Some, None, IsNone, IsErrOf, IfOk, IfSome, IsTrue, IsSomeAnd, Contains, ◌↔◌, List, length, vec_len, option_map};
-ghost use Rattle.outside_edge.specs.Shelf.{ShelfTold, CountsLoad, Loads, bytes_of, file_of};
+ghost use Rattle.std.specs.Prelude.{◌≡◌, ◌≤◌, ◌<◌, ◌-◌, ◌^◌, ℕ, Option, Some, None, IsNone, Ok, Err, IsErrOf, IfOk, IfErr, IfSome, IfNone, ◌≢◌, IsTrue, IsSomeAnd, Contains, ◌↔◌, List, length, vec_len, option_map};
+ghost use Rattle.outside_edge.specs.Shelf.{ShelfTold, CountsLoad, Loads, bytes_of, fault_at, file_of};
+ghost use Rattle.std.specs.IoError.{error_kind};
+ghost use Rattle.std.specs.declared.io.ErrorKind.TheVariants.{OutOfMemory};
 ghost use Rattle.outside_edge.specs.MemShelf.{files_of, shelf_told, one_load_more};
 
 use std::alloc::Global;
@@ -43,7 +45,8 @@ pub trait Shelf {
 
 // Counts a fault, where it can.
 fn fail(faults: &mut u64) -> LoadFault
-    ensures { CountsLoad {T = ℕ} faults.old faults.new (Err result) }
+    ensures counts { CountsLoad {T = ℕ} faults.old faults.new (Err result) }
+    ensures fault { result ≡ fault_at faults.old }
 {
     match faults.checked_add(1) {
         Some(more) => {
@@ -147,6 +150,9 @@ pub struct FileShelf<R> {
 /// The most bytes that a file of a `FileShelf` may have: 256 MiB.
 pub const LONGEST_FILE: u64 = 268_435_456;
 
+// Clauses give the number itself, so that they say it whatever the constant is.
+const _: () = prove!(LONGEST_FILE == 268_435_456);
+
 impl<R> Model for FileShelf<R> {
     ghost use Rattle.std.specs.Prelude.{ℕ};
 
@@ -182,11 +188,40 @@ fn read_up_to<F: Read + Drop>(alloc: Global, reader: F, most: u64) -> io::Result
     Ok(Some(bytes))
 }
 
-// The bytes of a file of the system, or `None` where it has more than `LONGEST_FILE`.
-fn read_file<R: Files>(rt: &R, alloc: Global, name: &str) -> io::Result<Option<Vec<u8>>>
-    ensures { IfOk result (λ found. IfSome found (λ bytes. vec_len bytes ≤ LONGEST_FILE)) }
+// The bytes of a file of the system, or `None` where it has more than `most`.
+fn read_file<R: Files>(rt: &R, alloc: Global, name: &str, most: u64) -> io::Result<Option<Vec<u8>>>
+    requires { most < 2 ^ 64 - 1 }
+    ensures { IfOk result (λ found. IfSome found (λ bytes. vec_len bytes ≤ most)) }
 {
-    read_up_to(alloc, File::open(rt, name)?, LONGEST_FILE)
+    read_up_to(alloc, File::open(rt, name)?, most)
+}
+
+// What a load answers to what was read: the bytes, `Memory` where memory ran out, and a fault at a file that is too
+// long and at every other error.
+fn answer_of(read: io::Result<Option<Vec<u8>>>, faults: &mut u64) -> Result<Vec<u8>, LoadFault>
+    ensures counts { CountsLoad faults.old faults.new result }
+    ensures bytes { IfOk read (λ found. IfSome found (λ bytes. result ≡ Ok bytes)) }
+    ensures long { IfOk read (λ found. IfNone found (result ≡ Err (fault_at faults.old))) }
+    ensures memory { IfErr read (λ error. error_kind error ≡ OutOfMemory → result ≡ Err LoadFault.Memory) }
+    ensures failed { IfErr read (λ error. error_kind error ≢ OutOfMemory → result ≡ Err (fault_at faults.old)) }
+{
+    match read {
+        Ok(Some(bytes)) => Ok(bytes),
+        Ok(None) => Err(fail(faults)),
+        Err(error) if error.kind() == io::ErrorKind::OutOfMemory => Err(LoadFault::Memory),
+        Err(_) => Err(fail(faults)),
+    }
+}
+
+impl<R: Files> FileShelf<R> {
+    // Loads a file of at most so many bytes.
+    fn load_up_to(&mut self, alloc: Global, name: &str, most: u64) -> Result<Vec<u8>, LoadFault>
+        requires { most < 2 ^ 64 - 1 }
+        ensures cause { CountsLoad self.old self.new result }
+        ensures most { IfOk result (λ bytes. vec_len bytes ≤ most) }
+    {
+        answer_of(read_file(&self.rt, alloc, name, most), &mut self.faults)
+    }
 }
 
 impl<R: Files> Shelf for FileShelf<R> {
@@ -196,14 +231,9 @@ impl<R: Files> Shelf for FileShelf<R> {
 
     fn load(&mut self, alloc: Global, name: &str) -> Result<Vec<u8>, LoadFault>
         ensures cause { CountsLoad self.old self.new result }
-        ensures most { IfOk result (λ bytes. vec_len bytes ≤ LONGEST_FILE) }
+        ensures most { IfOk result (λ bytes. vec_len bytes ≤ 268435456) }
     {
-        match read_file(&self.rt, alloc, name) {
-            Ok(Some(bytes)) => Ok(bytes),
-            Ok(None) => Err(fail(&mut self.faults)),
-            Err(error) if error.kind() == io::ErrorKind::OutOfMemory => Err(LoadFault::Memory),
-            Err(_) => Err(fail(&mut self.faults)),
-        }
+        self.load_up_to(alloc, name, LONGEST_FILE)
     }
 }
 
@@ -212,67 +242,31 @@ mod tests {
     use super::*;
     use std::fs;
     use std::process::Abort;
-    use std::test::Fail;
 
-    // Loads each name in turn. It is to give these bytes, or to fail where there are none.
-    fn loads<S: Shelf>(
-        rt: &impl Abort,
-        alloc: Global,
-        shelf: &mut S,
-        rows: &[(&str, Option<&str>)],
-    ) {
-        for (name, want) in rows {
-            match (shelf.load(alloc, name), want) {
-                (Ok(bytes), Some(text)) => assert!(rt;
-                    bytes.as_slice() == text.as_bytes(),
-                    "{name}"
-                ),
-                (Err(LoadFault::Failed), None) => {}
-                _ => panic!(rt; "another answer at {name}"),
-            }
+    // How many bytes a shelf gives of a file of this text, where its files have three bytes at most.
+    fn loads_within_three<R: Files>(rt: &R, alloc: Global, text: &str) -> Option<usize> {
+        if fs::write(rt, "three", text).is_err() {
+            return None;
+        }
+        match FileShelf::new(rt).load_up_to(alloc, "three", 3) {
+            Ok(bytes) => Some(bytes.len()),
+            Err(_) => None,
         }
     }
 
     #[test]
-    fn gives_the_files_in_memory(rt: HostRuntime) -> Result<(), Fail> {
-        let alloc: Global = rt.alloc();
-        let mut files = Vec::new(alloc);
-        for (name, text) in [("a", "one"), ("empty", ""), ("a", "two")] {
-            files.push((
-                String::from_str(alloc, name)?,
-                text.as_bytes().to_vec(alloc)?,
-            ))?;
+    fn a_file_over_the_limit_fails(rt: HostRuntime) {
+        for (text, given) in [
+            ("", Some(0)),
+            ("abc", Some(3)),
+            ("abcd", None),
+            ("abcde", None),
+        ] {
+            assert!(rt;
+                loads_within_three(&rt, rt.alloc(), text) == given,
+                "{text}"
+            );
         }
-        let failing = [2, 6].to_vec(alloc)?;
-        let mut shelf = MemShelf::new(files, failing);
-        let rows = [
-            ("a", Some("one")),
-            ("a", None),
-            ("a", Some("one")),
-            ("b", None),
-            ("empty", Some("")),
-            ("b", None),
-            ("", None),
-            ("a", Some("one")),
-        ];
-        loads(&rt, alloc, &mut shelf, &rows);
-        Ok(())
-    }
-
-    #[test]
-    fn gives_the_files_of_the_system(rt: HostRuntime) -> Result<(), Fail> {
-        let alloc: Global = rt.alloc();
-        fs::write(&rt, "letters", "abc\n")?;
-        let mut shelf = FileShelf::new(&rt);
-        let rows = [
-            ("letters", Some("abc\n")),
-            ("missing", None),
-            (".", None),
-            ("letters", Some("abc\n")),
-        ];
-        loads(&rt, alloc, &mut shelf, &rows);
-        fs::remove_file(&rt, "letters")?;
-        loads(&rt, alloc, &mut shelf, &[("letters", None)]);
-        Ok(())
+        assert!(rt; fs::remove_file(&rt, "three").is_ok());
     }
 }

@@ -1,9 +1,10 @@
 // Where bytes are written.
-ghost use Rattle.std.specs.Prelude.{◌≡◌, ◌++◌, ℕ, Option, Some, None, [], IsErrOf, OnOk, OnErr};
-ghost use Rattle.outside_edge.specs.Sink.{SinkTold, CountsPut, Puts};
+ghost use Rattle.std.specs.Prelude.{◌≡◌, ◌++◌, ℕ, Option, Some, None, [], IsErrOf, IsOk, OnOk, OnErr, Err};
+ghost use Rattle.outside_edge.specs.Sink.{SinkTold, CountsPut, Puts, fault_at};
 ghost use Rattle.outside_edge.specs.MemSink.{Fills};
 
 use std::alloc::Global;
+use std::io;
 use std::marker::Model;
 use thiserror::Error;
 
@@ -38,7 +39,8 @@ pub trait Sink {
 
 // Counts a fault, where it can.
 fn fail(faults: &mut u64) -> PutFault
-    ensures { CountsPut {T = ℕ} faults.old faults.new (Err result) }
+    ensures counts { CountsPut {T = ℕ} faults.old faults.new (Err result) }
+    ensures fault { result ≡ fault_at faults.old }
 {
     match faults.checked_add(1) {
         Some(more) => {
@@ -157,94 +159,24 @@ impl<R: Print> StdSink<R> {
     }
 }
 
+// What a put answers to what was written: a fault where the system didn't take it all.
+fn answer_of(wrote: io::Result<()>, faults: &mut u64) -> Result<(), PutFault>
+    ensures counts { CountsPut faults.old faults.new result }
+    ensures written { OnOk wrote (IsOk result) }
+    ensures failed { OnErr wrote (result ≡ Err (fault_at faults.old)) }
+{
+    match wrote {
+        Ok(()) => Ok(()),
+        Err(_) => Err(fail(faults)),
+    }
+}
+
 impl<R: Print> Sink for StdSink<R> {
     ghost faults = { λ s. s };
 
     ghost told = { λ _. None };
 
     fn put(&mut self, bytes: &[u8]) -> Result<(), PutFault> {
-        match self.rt.write_all(bytes) {
-            Ok(()) => Ok(()),
-            Err(_) => Err(fail(&mut self.faults)),
-        }
-    }
-}
-
-#[cfg(test)]
-mod tests {
-    use super::*;
-    use std::fmt::Display;
-    use std::io;
-    use std::process::Abort;
-
-    // Puts each piece in turn. It is to be taken, or to fail where it is not to fit.
-    fn puts<K: Sink>(rt: &impl Abort, sink: &mut K, pieces: &[(&str, bool)]) {
-        for (piece, fits) in pieces {
-            match sink.put(piece.as_bytes()) {
-                Ok(()) => assert!(rt; *fits, "{piece}"),
-                Err(PutFault::Failed) => assert!(rt; !*fits, "{piece}"),
-                Err(PutFault::Memory) => panic!(rt; "no memory at {piece}"),
-            }
-        }
-    }
-
-    #[test]
-    fn takes_what_has_room(rt: HostRuntime) {
-        let alloc: Global = rt.alloc();
-        for (room, pieces, taken) in [
-            (
-                None,
-                [("1: hi\n", true), ("", true), ("2: ho\n", true)],
-                "1: hi\n2: ho\n",
-            ),
-            (
-                Some(6),
-                [("1: hi\n", true), ("", true), ("2: ho\n", false)],
-                "1: hi\n",
-            ),
-            (
-                Some(3),
-                [("1: hi\n", false), ("2", false), ("", true)],
-                "1: ",
-            ),
-            (
-                Some(8),
-                [("1: hi\n", true), ("2: ho\n", false), ("3", false)],
-                "1: hi\n2:",
-            ),
-            (Some(0), [("", true), ("1", false), ("", true)], ""),
-        ] {
-            let mut sink = MemSink::new(alloc, room);
-            puts(&rt, &mut sink, &pieces);
-            assert!(rt; sink.taken() == taken.as_bytes(), "{taken}");
-        }
-    }
-
-    // An output that is closed.
-    #[derive(Drop)]
-    struct Closed;
-
-    impl Print for Closed {
-        fn print<D: Display + Drop>(&self, _value: D) -> io::Result<()> {
-            Err(io::Error::from(io::ErrorKind::BrokenPipe))
-        }
-
-        fn println<D: Display + Drop>(&self, _value: D) -> io::Result<()> {
-            Err(io::Error::from(io::ErrorKind::BrokenPipe))
-        }
-
-        fn write_all(&self, _bytes: &[u8]) -> io::Result<()> {
-            Err(io::Error::from(io::ErrorKind::BrokenPipe))
-        }
-    }
-
-    #[test]
-    fn writes_to_the_standard_output(rt: HostRuntime) {
-        puts(
-            &rt,
-            &mut StdSink::new(&rt),
-            &[("written\n", true), ("", true)],
-        );
-        puts(&rt, &mut StdSink::new(Closed), &[("lost\n", false)]);
+        answer_of(self.rt.write_all(bytes), &mut self.faults)
     }
 }

@@ -1,0 +1,7 @@
+//! Tests of the edges, of the top call, and of the texts of faults.
+#![tactic(auto)]
+
+#[cfg(test)]
+mod edges;
+#[cfg(test)]
+mod texts;
