@@ -12,7 +12,7 @@ use Rattle.world_types.specs.declared.effects.Entry.{Entry}
 use Rattle.world_rules.specs.Plain.{World, join, node_at, nothing, plain}
 use Rattle.world_rules.specs.Said.{last_stamp, marked, plain_events, plainly_at}
 use Rattle.world_rules.specs.Conditions.{first_of}
-use Rattle.world_rules.specs.Legal.{ArePlain, Follows, bare, enter, first_failing, most, reached, settled}
+use Rattle.world_rules.specs.Legal.{ArePlain, Follows, bare, first_failing, most, reached, settled}
 use Rattle.world_rules.specs.Node.{NodeState, due, first_of_program, nodes_from, picks, rules_of, tick, turn}
 use Rattle.world_rules.proofs.Erasing.{cut-plain, events-append, plain-append}
 use Rattle.world_rules.proofs.Following.{and_left, and_right, passes}

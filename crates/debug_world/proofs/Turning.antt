@@ -13,7 +13,7 @@ use Rattle.world_types.specs.declared.effects.Effects.{Effects}
 use Rattle.world_rules.specs.Plain.{Rules, World, and_then, behind, plain}
 use Rattle.world_rules.specs.Said.{cut, last_by, last_of, last_stamp, marked, node_of, plain_events, rounds}
 use Rattle.world_rules.specs.declared.condition.Condition.TheVariants as on
-use Rattle.world_rules.specs.Conditions.{Test, first_of, number_of}
+use Rattle.world_rules.specs.Conditions.{Test, first_of}
 use Rattle.world_rules.specs.Legal.{ArePlain, IsPlainEvent, first_failing, is_node, most, passed, reached}
 use Rattle.world_rules.specs.Node.{NodeState, acted, advance, can_turn, due, expire, expired, expiring, first_of_program, picked_at, picks, ready_frames, rules_of, step_of, steps, tick, turn}
 use Rattle.machine_rules.specs.declared.frame.Frame.{Frame}

@@ -8,7 +8,7 @@ use Rattle.std.proofs.lemmas.Slice.Eq.{bytes_eq-Decides}
 use Rattle.clu_tree.specs.Typed.{HasRoutine, IsTyped, IsTypedNode, IsTypedPart, IsTypedRoutine}
 use Rattle.clu_tree.specs.declared.value.Value.{Value}
 use Rattle.clu_tree.specs.declared.program.Routine.{Routine}
-use Rattle.clu_tree.specs.declared.program.NodePart.TheVariants.{Export, Start}
+use Rattle.clu_tree.specs.declared.program.NodePart.TheVariants.{Start}
 use Rattle.clu_tree.specs.declared.program.NodeDecl.{NodeDecl}
 use Rattle.clu_tree.specs.declared.program.Program.{Program}
 use Rattle.machine_rules.specs.declared.frame.Frame.{Frame}
@@ -86,9 +86,6 @@ pub begun : (program : Program) (d : NodeDecl) (name : List ℕ) (args : List Va
 begun program d name args line typed h part =
     let p : IsTypedPart program (Start name args line) = all_at (IsTypedPart program) d.parts (Start name args line) (block_of program d typed h).typed.parts part in
     record { there = p.0; bare = p.1 }
-
-pub exported : (program : Program) (d : NodeDecl) (name : List ℕ) (line : ℕ) → IsTyped program → Some d ≡ slice_get program.nodes 0 → Some (Export name line) ≡ slice_get d.parts 0 → ⊥
-exported program d name line typed h part = all_at (IsTypedPart program) d.parts (Export name line) (block_of program d typed h).typed.parts part
 
 -- the routine that is started is there
 pub is_named : (program : Program) (name : List ℕ) → HasRoutine program name → None ≡ option_map (λ found. found.0) (routine_named name 0 program.routines) → ⊥

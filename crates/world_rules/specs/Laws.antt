@@ -1,12 +1,14 @@
 -- The laws of what a list says, over every program.
-use Rattle.std.specs.Prelude.{◌≡◌, ℕ, ◌≤◌, List, [], ◌∷◌, ◌++◌, reverse, Some, None}
+use Rattle.std.specs.Prelude.{◌≡◌, ℕ, ◌≤◌, true, List, [], ◌∷◌, ◌++◌, length, reverse, Some, None}
 use Rattle.clu_tree.specs.declared.program.Program.{Program}
+use Rattle.world_types.specs.declared.event.Event.TheVariants.{Resume}
 use Rattle.world_types.specs.declared.event.Told.{Told}
 use Rattle.world_types.specs.declared.effects.Entry.{Entry}
 use Rattle.world_types.specs.declared.effects.Effects.{Effects}
 use Rattle.world_rules.specs.Plain.{World, plain}
-use Rattle.world_rules.specs.Said.{rounds, cut, erase, items, plain_events}
-use Rattle.world_rules.specs.Legal.{ArePlain, ErasesLegally, Follows, SameEffects, first_failing, tolds}
+use Rattle.world_rules.specs.Said.{Round, rounds, cut, erase, items, plain_events, read_by}
+use Rattle.world_rules.specs.Clock.{ClosedBy, Knows, Lacks, Ordered, clock_reads, opening, total}
+use Rattle.world_rules.specs.Legal.{ArePlain, ErasesLegally, Follows, SameEffects, first_failing, reached, tolds}
 use Rattle.world_rules.specs.Node.{IsLegal, NodeState, first_of_program, rules_of}
 use Rattle.world_rules.specs.Transcript.{printed, transcript, written_by}
 
@@ -48,3 +50,19 @@ pub record RunsPlainly (program : Program) (list : List Entry) : Type 0 where
 -- Of turns, packets and ticks alone: a legal list of them is run as it stands.
 abbrev pub PlainLaw : Program → Type 0
 PlainLaw program = (list : List Entry) → IsLegal program list → ArePlain (tolds list) → RunsPlainly program list
+
+-- a clock that keeps the total and the opening of the rounds reads their cut where all that are closed are closed by then
+abbrev pub ClockLaw : Type 0
+ClockLaw = (rs : List Round) (s t : ℕ) → Ordered rs s → ClosedBy t rs → clock_reads (total rs) (opening rs) t ≡ cut rs t
+
+-- rounds that a clock knows, which lack some of the list's, have the list's cut at a time that the list lets be read
+abbrev pub LaggingClockLaw : Type 0
+LaggingClockLaw = (known rs : List Round) (t : ℕ) → Lacks known rs → read_by rs t ≡ true → cut known t ≡ cut rs t
+
+-- The node's clock, which knows these rounds, knows the list also with an entry that meets its conditions; where that
+-- is the node's Resume, it knew all rounds.
+abbrev pub KnowingLaw : Program → Type 0
+KnowingLaw program =
+    (past : List Told) (e : Told) (n : ℕ) (known : List Round) → first_failing (rules_of program) (first_of_program program) past e ≡ None →
+    1 ≤ n → n ≤ length (reached (rules_of program) (first_of_program program) past) → (e.event ≡ Resume n → known ≡ rounds past) →
+    Knows n past known → Knows n (e ∷ past) known

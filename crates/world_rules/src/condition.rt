@@ -3,8 +3,8 @@
 ghost use Rattle.std.specs.Prelude.{◌≡◌};
 ghost use Rattle.world_rules.specs.Conditions.{number_of};
 
-/// A condition of an entry after a list. Which of them an event has to meet, and in which order, `Legal` says; the first
-/// that fails refuses the entry, by its number.
+/// A condition of an entry after a list. Which of them an event has to meet, and in which order, `Legal` says. The
+/// first that fails refuses the entry, by its number.
 #[derive(Clone, Copy, Debug)]
 pub enum Condition {
     /// 1: the stamp isn't below the last stamp.

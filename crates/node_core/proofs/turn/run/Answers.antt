@@ -1,5 +1,5 @@
-use Rattle.std.proofs.Common.{ap, sym, ◌∙◌, refl, arith}
-use Rattle.node_core.proofs.Acts.{Stepped, fits_noted, goes_on, is_over, on_fits, sleeps, took_more}
+use Rattle.std.proofs.Common.{sym, ◌∙◌, arith}
+use Rattle.node_core.proofs.Acts.{fits_noted, goes_on, is_over, on_fits, sleeps, took_more}
 use Rattle.node_core.proofs.turn.run.Goals as goal
 
 pub note-requires-clause-noted : goal.note-requires-clause-noted

@@ -1,4 +1,4 @@
-use Rattle.std.proofs.Common.{sym, ap, ◌∙◌}
+use Rattle.std.proofs.Common.{ap, ◌∙◌}
 use Rattle.debug_world.specs.Seen.{Seen}
 use Rattle.debug_world.proofs.Adding.{turn_refusal_is, unspent_node}
 use Rattle.debug_world.proofs.world.DebugWorld.turn_refusal.Goals as goal

@@ -1,5 +1,5 @@
-use Rattle.std.proofs.Common.{inl, inr, refl, arith, sym, ◌∙◌, ap}
-use Rattle.node_core.specs.Seen.{NodeSeen, live, own_limit}
+use Rattle.std.proofs.Common.{inl, inr, arith, sym, ◌∙◌, ap}
+use Rattle.node_core.specs.Seen.{NodeSeen, own_limit}
 use Rattle.node_core.proofs.Expiring.{own_queue}
 use Rattle.node_core.proofs.Turns.{answered, refused}
 use Rattle.node_core.proofs.node.Node.turn.Goals as goal
