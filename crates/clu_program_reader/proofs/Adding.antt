@@ -1,11 +1,9 @@
 -- A program put together part by part.
-use Rattle.std.proofs.Common.{◌≡◌, ℕ, suc, ◌+◌, ◌-◌, ◌<◌, ◌≤◌, List, [], ◌∷◌, ◌++◌, length, Option, Some, None, refl, ap, sym, ◌∙◌, arith}
+use Rattle.std.proofs.Common.{◌≡◌, ℕ, suc, ◌+◌, List, [], ◌∷◌, length, Option, Some, None, refl, ap, ◌∙◌, arith}
 use Rattle.std.proofs.lemmas.List.{length-append}
-use Rattle.clu_tree.specs.declared.lexeme.Lexeme.{Lexeme}
 use Rattle.clu_tree.specs.declared.program.Program.{Program}
-use Rattle.clu_grammar.specs.Grammar.{Tokens, Part, AnEquate, ANodeVar, ARoutine, ACluster, ANode, routines_in, with_part, program_of, empty_program}
+use Rattle.clu_grammar.specs.Grammar.{Tokens, Part, AnEquate, ANodeVar, ARoutine, ACluster, ANode, routines_in, with_part}
 use Rattle.clu_grammar.specs.ProgramPlan as plan
-use Rattle.clu_grammar.proofs.Few.{part_has_few}
 use Rattle.clu_program_reader.specs.Whole.{with_rest}
 
 -- what the whole loop finds, where the tokens are at their end
@@ -24,19 +22,10 @@ parts_more p n (y ∷ ts) r x h some = ap (λ o. with_rest p (plan.parts_after (
     before (Some xs) = refl
     before None = refl
 
-pub parts_fail : (p : Program) (n : ℕ) (ts : Tokens) → plan.part 200 ts ≡ None → (length ts ≡ 0 → ⊥) → with_rest p (plan.parts 200 (suc n) ts) ≡ None
-unfolding plan.parts
-parts_fail p n [] h some = absurd (some refl)
-parts_fail p n (y ∷ ts) h some = ap (λ o. with_rest p (plan.parts_after (plan.parts 200 n) o)) h
-
 pub parts_out : (p : Program) (ts : Tokens) → (length ts ≡ 0 → ⊥) → with_rest p (plan.parts 200 0 ts) ≡ None
 unfolding plan.parts
 parts_out p [] some = absurd (some refl)
 parts_out p (y ∷ ts) some = refl
-
-pub made_as : (o : Option (List Part)) → plan.made_of o ≡ with_rest empty_program o
-made_as (Some xs) = refl
-made_as None = refl
 
 -- each part adds its routines
 pub routines_grow : (p : Program) (x : Part) → length (with_part p x).routines ≡ length p.routines + routines_in x
@@ -50,10 +39,3 @@ pub parts_step : (p : Program) (n : ℕ) (ts : Tokens) → (length ts ≡ 0 → 
 unfolding plan.parts
 parts_step p n [] some = absurd (some refl)
 parts_step p n (y ∷ ts) some = refl
-
--- a loop that counts up, beside a number of turns that are left
-pub turn_of : {X : Type 0} (f : ℕ → X) (n at : ℕ) → at < n → f (n - at) ≡ f (suc (n - (at + 1)))
-turn_of f n at below = let turn : n - at ≡ suc (n - (at + 1)) = omega arith in ap f turn
-
-pub no_turn : {X : Type 0} (f : ℕ → X) (n at : ℕ) → n ≤ at → f (n - at) ≡ f 0
-no_turn f n at done = let none : n - at ≡ 0 = omega arith in ap f none

@@ -1,8 +1,8 @@
 //! Clusters.
 
 ghost use Rattle.std.specs.Prelude.{◌≡◌};
-ghost use Rattle.clu_grammar.specs.ProgramPlan as plan;
 ghost use Rattle.clu_expr_reader.specs.Gives.{Gives};
+ghost use Rattle.clu_program_reader.specs.Parts as parts;
 ghost use Rattle.clu_program_reader.specs.Views.{cluster_part};
 
 use crate::pass::pass;
@@ -23,18 +23,28 @@ pub struct ClusterPart {
     pub line: u32,
 }
 
+/// Reads the names that a cluster lists, and `rep =`.
+#[tactic(auto, unfolding(crate::specs::Parts::names_listed))]
+fn names_listed(alloc: Global, cursor: &mut Cursor<'_>) -> Result<Items<Text>, ReadFault>
+    ensures { Gives (λ x. x) result cursor.new (parts.names_listed cursor.old) }
+{
+    let found = names(alloc, cursor)?;
+    pass!(cursor, Rep);
+    pass!(cursor, Equals);
+    Ok(found)
+}
+
 /// Reads a cluster behind its name, `=`, `cluster` and `is`.
+#[tactic(auto, unfolding(crate::specs::Parts::cluster_of))]
 pub fn cluster_of(
     alloc: Global,
     cursor: &mut Cursor<'_>,
     name: Text,
     line: u32,
 ) -> Result<ClusterPart, ReadFault>
-    ensures { Gives cluster_part result cursor.new (plan.cluster_of 200 name line cursor.old) }
+    ensures { Gives cluster_part result cursor.new (parts.cluster_of name line cursor.old) }
 {
-    let listed = names(alloc, cursor)?;
-    pass!(cursor, Rep);
-    pass!(cursor, Equals);
+    let listed = names_listed(alloc, cursor)?;
     let rep = any_shape(alloc, cursor)?;
     let routines = routines(alloc, cursor)?;
     own_name(cursor, &name)?;

@@ -20,6 +20,7 @@ pub fn at_comma(cursor: &Cursor<'_>) -> bool
 }
 
 /// Whether a minus sign comes next.
+#[tactic(auto, unfolding(crate::specs::Parts::at_minus))]
 fn at_minus(cursor: &Cursor<'_>) -> bool
     ensures { result ≡ parts.at_minus cursor.now }
 {
@@ -27,6 +28,7 @@ fn at_minus(cursor: &Cursor<'_>) -> bool
 }
 
 /// Reads a minus sign and the number behind it.
+#[tactic(auto, unfolding(crate::specs::Parts::negated))]
 fn negated(cursor: &mut Cursor<'_>) -> Result<Value, ReadFault>
     ensures { Gives (λ x. x) result cursor.new (parts.negated cursor.old) }
 {
@@ -43,7 +45,7 @@ fn negated(cursor: &mut Cursor<'_>) -> Result<Value, ReadFault>
 /// Reads a literal, with its sign if it has one.
 #[tactic(auto, using(crate::proofs::Steps::literals))]
 pub fn signed(alloc: Global, cursor: &mut Cursor<'_>) -> Result<Value, ReadFault>
-    ensures { Gives (λ x. x) result cursor.new (plan.signed_at cursor.old) }
+    ensures { Gives (λ x. x) result cursor.new (parts.signed cursor.old) }
 {
     if at_minus(cursor) {
         return negated(cursor);
@@ -68,6 +70,7 @@ fn value_list(alloc: Global, cursor: &mut Cursor<'_>) -> Result<Items<Value>, Re
 }
 
 /// Whether a closing bracket comes next.
+#[tactic(auto, unfolding(crate::specs::Parts::at_close))]
 pub fn at_close(cursor: &Cursor<'_>) -> bool
     ensures { result ≡ parts.at_close cursor.now }
 {
@@ -77,7 +80,7 @@ pub fn at_close(cursor: &Cursor<'_>) -> bool
 /// Reads the literals behind an opening bracket, and the closing one.
 #[tactic(auto, using(crate::proofs::Steps::brackets))]
 pub fn values(alloc: Global, cursor: &mut Cursor<'_>) -> Result<Items<Value>, ReadFault>
-    ensures { Gives (λ x. x) result cursor.new (plan.values cursor.old) }
+    ensures { Gives (λ x. x) result cursor.new (parts.values cursor.old) }
 {
     if at_close(cursor) {
         cursor.skip();

@@ -13,6 +13,7 @@ use sqlite_items::Items;
 use std::alloc::Global;
 
 /// Whether an `export` or a `start` comes next.
+#[tactic(auto, unfolding(crate::specs::Parts::at_node_part))]
 fn at_part(cursor: &Cursor<'_>) -> bool
     ensures { result ≡ parts.at_node_part cursor.now }
 {
@@ -23,6 +24,7 @@ fn at_part(cursor: &Cursor<'_>) -> bool
 }
 
 /// Whether an `export` comes next.
+#[tactic(auto, unfolding(crate::specs::Parts::at_export))]
 fn at_export(cursor: &Cursor<'_>) -> bool
     ensures { result ≡ parts.at_export cursor.now }
 {
@@ -30,6 +32,7 @@ fn at_export(cursor: &Cursor<'_>) -> bool
 }
 
 /// Reads an `export`.
+#[tactic(auto, unfolding(crate::specs::Parts::export))]
 fn export(alloc: Global, cursor: &mut Cursor<'_>) -> Result<NodePart, ReadFault>
     ensures { Gives (λ x. x) result cursor.new (parts.export cursor.old) }
 {
@@ -39,6 +42,7 @@ fn export(alloc: Global, cursor: &mut Cursor<'_>) -> Result<NodePart, ReadFault>
 }
 
 /// Reads a `start`.
+#[tactic(auto, unfolding(crate::specs::Parts::start))]
 fn start(alloc: Global, cursor: &mut Cursor<'_>) -> Result<NodePart, ReadFault>
     ensures { Gives (λ x. x) result cursor.new (parts.start cursor.old) }
 {
@@ -50,7 +54,7 @@ fn start(alloc: Global, cursor: &mut Cursor<'_>) -> Result<NodePart, ReadFault>
 }
 
 /// Reads an `export` or a `start`.
-#[tactic(auto, using(crate::proofs::Steps::node_blocks))]
+#[tactic(auto, unfolding(crate::specs::Parts::node_part))]
 fn part(alloc: Global, cursor: &mut Cursor<'_>) -> Result<NodePart, ReadFault>
     ensures { Gives (λ x. x) result cursor.new (parts.node_part cursor.old) }
 {

@@ -1,7 +1,6 @@
 //! Variables of which each node has its own copy.
 
 ghost use Rattle.std.specs.Prelude.{◌≡◌, codes};
-ghost use Rattle.clu_grammar.specs.ProgramPlan as plan;
 ghost use Rattle.clu_expr_reader.specs.Gives.{Gives};
 ghost use Rattle.clu_program_reader.specs.Parts as parts;
 
@@ -13,6 +12,7 @@ use clu_tree::{Initial, Key, Lexeme, NodeVar, Shape, Text};
 use std::alloc::Global;
 
 /// Reads `$`, this name and an opening bracket.
+#[tactic(auto, unfolding(crate::specs::Parts::maker))]
 fn maker(cursor: &mut Cursor<'_>, name: &[u8]) -> Result<(), ReadFault>
     ensures { Gives (λ x. x) result cursor.new (parts.maker name.now cursor.old) }
 {
@@ -26,6 +26,7 @@ fn maker(cursor: &mut Cursor<'_>, name: &[u8]) -> Result<(), ReadFault>
 }
 
 /// Reads `lock$create()`.
+#[tactic(auto, unfolding(crate::specs::Parts::lock))]
 fn lock(cursor: &mut Cursor<'_>) -> Result<Initial, ReadFault>
     ensures { Gives (λ x. x) result cursor.new (parts.lock cursor.old) }
 {
@@ -36,6 +37,7 @@ fn lock(cursor: &mut Cursor<'_>) -> Result<Initial, ReadFault>
 }
 
 /// Reads `semaphore$create(..)`.
+#[tactic(auto, unfolding(crate::specs::Parts::semaphore, crate::specs::Parts::int_at))]
 fn semaphore(cursor: &mut Cursor<'_>) -> Result<Initial, ReadFault>
     ensures { Gives (λ x. x) result cursor.new (parts.semaphore cursor.old) }
 {
@@ -47,6 +49,7 @@ fn semaphore(cursor: &mut Cursor<'_>) -> Result<Initial, ReadFault>
 }
 
 /// Reads `array[..]$new()`.
+#[tactic(auto, unfolding(crate::specs::Parts::array))]
 fn array(alloc: Global, cursor: &mut Cursor<'_>) -> Result<Initial, ReadFault>
     ensures { Gives (λ x. x) result cursor.new (parts.array cursor.old) }
 {
@@ -60,6 +63,7 @@ fn array(alloc: Global, cursor: &mut Cursor<'_>) -> Result<Initial, ReadFault>
 }
 
 /// Reads a literal.
+#[tactic(auto, unfolding(crate::specs::Parts::value))]
 fn value(alloc: Global, cursor: &mut Cursor<'_>) -> Result<Initial, ReadFault>
     ensures { Gives (λ x. x) result cursor.new (parts.value cursor.old) }
 {
@@ -77,6 +81,7 @@ enum InitialKind {
 }
 
 /// With what the initial value that comes next begins.
+#[tactic(auto, unfolding(crate::specs::Parts::initial_kind))]
 fn initial_kind(cursor: &Cursor<'_>) -> InitialKind
     ensures { result ≡ parts.initial_kind cursor.now }
 {
@@ -91,7 +96,7 @@ fn initial_kind(cursor: &Cursor<'_>) -> InitialKind
 /// Reads the value with which a node variable begins.
 #[tactic(auto, using(crate::proofs::Steps::initials))]
 fn initial(alloc: Global, cursor: &mut Cursor<'_>) -> Result<Initial, ReadFault>
-    ensures { Gives (λ x. x) result cursor.new (plan.initial 200 cursor.old) }
+    ensures { Gives (λ x. x) result cursor.new (parts.initial cursor.old) }
 {
     match initial_kind(cursor) {
         InitialKind::Lock => lock(cursor),
@@ -102,6 +107,7 @@ fn initial(alloc: Global, cursor: &mut Cursor<'_>) -> Result<Initial, ReadFault>
 }
 
 /// Whether `:=` comes next.
+#[tactic(auto, unfolding(crate::specs::Parts::at_becomes))]
 fn at_becomes(cursor: &Cursor<'_>) -> bool
     ensures { result ≡ parts.at_becomes cursor.now }
 {
@@ -121,6 +127,7 @@ fn first_value(alloc: Global, cursor: &mut Cursor<'_>) -> Result<Option<Initial>
 }
 
 /// Reads a node variable behind its name and the colon.
+#[tactic(auto, unfolding(crate::specs::Parts::node_var_of))]
 pub fn node_var_of(
     alloc: Global,
     cursor: &mut Cursor<'_>,

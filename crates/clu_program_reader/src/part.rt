@@ -26,6 +26,7 @@ pub enum ProgramPart {
 }
 
 /// Reads a node variable.
+#[tactic(auto, unfolding(crate::specs::Parts::node_var))]
 fn node_var(alloc: Global, cursor: &mut Cursor<'_>) -> Result<ProgramPart, ReadFault>
     ensures { Gives part_view result cursor.new (parts.node_var cursor.old) }
 {
@@ -37,6 +38,7 @@ fn node_var(alloc: Global, cursor: &mut Cursor<'_>) -> Result<ProgramPart, ReadF
 }
 
 /// Reads a node block.
+#[tactic(auto, unfolding(crate::specs::Parts::node))]
 fn node(alloc: Global, cursor: &mut Cursor<'_>) -> Result<ProgramPart, ReadFault>
     ensures { Gives part_view result cursor.new (parts.node cursor.old) }
 {
@@ -52,6 +54,7 @@ fn node(alloc: Global, cursor: &mut Cursor<'_>) -> Result<ProgramPart, ReadFault
 }
 
 /// Reads a routine behind its name and `=`.
+#[tactic(auto, unfolding(crate::specs::Parts::routine_part))]
 fn routine_part(
     alloc: Global,
     cursor: &mut Cursor<'_>,
@@ -67,6 +70,7 @@ fn routine_part(
 }
 
 /// Reads a cluster behind its name and `=`.
+#[tactic(auto, unfolding(crate::specs::Parts::cluster_part))]
 fn cluster_part(
     alloc: Global,
     cursor: &mut Cursor<'_>,
@@ -82,6 +86,7 @@ fn cluster_part(
 }
 
 /// Reads an equate behind its name and `=`.
+#[tactic(auto, unfolding(crate::specs::Parts::equate))]
 fn equate(
     alloc: Global,
     cursor: &mut Cursor<'_>,
@@ -99,6 +104,7 @@ fn equate(
 }
 
 /// Whether a `proc` comes next.
+#[tactic(auto, unfolding(crate::specs::Parts::at_proc))]
 fn at_proc(cursor: &Cursor<'_>) -> bool
     ensures { result ≡ parts.at_proc cursor.now }
 {
@@ -106,6 +112,7 @@ fn at_proc(cursor: &Cursor<'_>) -> bool
 }
 
 /// Whether a `cluster` comes next.
+#[tactic(auto, unfolding(crate::specs::Parts::at_cluster))]
 fn at_cluster(cursor: &Cursor<'_>) -> bool
     ensures { result ≡ parts.at_cluster cursor.now }
 {
@@ -113,6 +120,7 @@ fn at_cluster(cursor: &Cursor<'_>) -> bool
 }
 
 /// Reads a routine, a cluster or an equate behind its name and `=`.
+#[tactic(auto, unfolding(crate::specs::Parts::behind_equals))]
 fn behind_equals(
     alloc: Global,
     cursor: &mut Cursor<'_>,
@@ -131,6 +139,7 @@ fn behind_equals(
 }
 
 /// Reads a routine, a cluster or an equate.
+#[tactic(auto, unfolding(crate::specs::Parts::named))]
 fn named(alloc: Global, cursor: &mut Cursor<'_>) -> Result<ProgramPart, ReadFault>
     ensures { Gives part_view result cursor.new (parts.named cursor.old) }
 {
@@ -140,6 +149,7 @@ fn named(alloc: Global, cursor: &mut Cursor<'_>) -> Result<ProgramPart, ReadFaul
 }
 
 /// Whether a `nodevar` comes next.
+#[tactic(auto, unfolding(crate::specs::Parts::at_node_var))]
 fn at_node_var(cursor: &Cursor<'_>) -> bool
     ensures { result ≡ parts.at_node_var cursor.now }
 {
@@ -147,6 +157,7 @@ fn at_node_var(cursor: &Cursor<'_>) -> bool
 }
 
 /// Whether a `node` comes next.
+#[tactic(auto, unfolding(crate::specs::Parts::at_node))]
 fn at_node(cursor: &Cursor<'_>) -> bool
     ensures { result ≡ parts.at_node cursor.now }
 {

@@ -28,7 +28,18 @@ pub fn any_shape(alloc: Global, cursor: &mut Cursor<'_>) -> Result<Shape, ReadFa
     Ok(found.shape)
 }
 
+/// Reads a type and the bracket behind it.
+#[tactic(auto, unfolding(crate::specs::Parts::closed_shape))]
+fn closed_shape(alloc: Global, cursor: &mut Cursor<'_>) -> Result<Shape, ReadFault>
+    ensures { Gives (λ x. x) result cursor.new (parts.closed_shape cursor.old) }
+{
+    let found = any_shape(alloc, cursor)?;
+    pass!(cursor, RParen);
+    Ok(found)
+}
+
 /// Whether an opening bracket comes next.
+#[tactic(auto, unfolding(crate::specs::Parts::at_open))]
 fn at_open(cursor: &Cursor<'_>) -> bool
     ensures { result ≡ parts.at_open cursor.now }
 {
@@ -38,18 +49,18 @@ fn at_open(cursor: &Cursor<'_>) -> bool
 /// Reads the type of an exception's value, if one is written.
 #[tactic(auto, using(crate::proofs::Steps::brackets))]
 fn carried(alloc: Global, cursor: &mut Cursor<'_>) -> Result<Option<Shape>, ReadFault>
-    ensures { Gives (λ x. x) result cursor.new (plan.carried 200 cursor.old) }
+    ensures { Gives (λ x. x) result cursor.new (parts.carried cursor.old) }
 {
     if !at_open(cursor) {
         return Ok(None);
     }
     cursor.skip();
-    let found = any_shape(alloc, cursor)?;
-    pass!(cursor, RParen);
+    let found = closed_shape(alloc, cursor)?;
     Ok(Some(found))
 }
 
 /// Reads an exception that a routine lists.
+#[tactic(auto, unfolding(crate::specs::Parts::one_listed))]
 fn one_listed(alloc: Global, cursor: &mut Cursor<'_>) -> Result<Listed, ReadFault>
     ensures { Gives (λ x. x) result cursor.new (parts.one_listed cursor.old) }
 {
@@ -77,7 +88,7 @@ fn listed(alloc: Global, cursor: &mut Cursor<'_>) -> Result<Items<Listed>, ReadF
 /// Reads the parameters behind an opening bracket, and the closing one.
 #[tactic(auto, using(crate::proofs::Steps::brackets))]
 fn params(alloc: Global, cursor: &mut Cursor<'_>) -> Result<Items<Named>, ReadFault>
-    ensures { Gives (λ x. x) result cursor.new (plan.params 200 cursor.old) }
+    ensures { Gives (λ x. x) result cursor.new (parts.params cursor.old) }
 {
     if at_close(cursor) {
         cursor.skip();
@@ -89,6 +100,7 @@ fn params(alloc: Global, cursor: &mut Cursor<'_>) -> Result<Items<Named>, ReadFa
 }
 
 /// Whether `returns (` comes next.
+#[tactic(auto, unfolding(crate::specs::Parts::at_result))]
 fn at_result(cursor: &Cursor<'_>) -> bool
     ensures { result ≡ parts.at_result cursor.now }
 {
@@ -99,6 +111,7 @@ fn at_result(cursor: &Cursor<'_>) -> bool
 }
 
 /// Whether `signals (` comes next.
+#[tactic(auto, unfolding(crate::specs::Parts::at_signals))]
 fn at_signals(cursor: &Cursor<'_>) -> bool
     ensures { result ≡ parts.at_signals cursor.now }
 {
@@ -111,21 +124,20 @@ fn at_signals(cursor: &Cursor<'_>) -> bool
 /// Reads the type of a routine's result, if it has one.
 #[tactic(auto, using(crate::proofs::Steps::results))]
 fn result_of(alloc: Global, cursor: &mut Cursor<'_>) -> Result<Option<Shape>, ReadFault>
-    ensures { Gives (λ x. x) result cursor.new (plan.result 200 cursor.old) }
+    ensures { Gives (λ x. x) result cursor.new (parts.result cursor.old) }
 {
     if !at_result(cursor) {
         return Ok(None);
     }
     cursor.skip_two();
-    let found = any_shape(alloc, cursor)?;
-    pass!(cursor, RParen);
+    let found = closed_shape(alloc, cursor)?;
     Ok(Some(found))
 }
 
 /// Reads the exceptions that a routine lists, if it lists some.
 #[tactic(auto, using(crate::proofs::Steps::results))]
 fn signals(alloc: Global, cursor: &mut Cursor<'_>) -> Result<Items<Listed>, ReadFault>
-    ensures { Gives (λ x. x) result cursor.new (plan.signals 200 cursor.old) }
+    ensures { Gives (λ x. x) result cursor.new (parts.signals cursor.old) }
 {
     if !at_signals(cursor) {
         return Ok(Items::new(alloc));
@@ -137,12 +149,12 @@ fn signals(alloc: Global, cursor: &mut Cursor<'_>) -> Result<Items<Listed>, Read
 }
 
 /// Reads `end` and this very name.
-#[tactic(auto, using(crate::proofs::Names::same_names))]
+#[tactic(auto, using(crate::proofs::Names::same_names), unfolding(crate::specs::Parts::own_name))]
 pub fn own_name(cursor: &mut Cursor<'_>, name: &Text) -> Result<(), ReadFault>
-    ensures routine { IfOk result (λ _. (x : Routine) → plan.own_name name.now x cursor.old ≡ Some (x, cursor.new)) }
-    ensures part { IfOk result (λ _. (x : Part) → plan.own_name name.now x cursor.old ≡ Some (x, cursor.new)) }
-    ensures no_routine { OnSyntax result ((x : Routine) → plan.own_name name.now x cursor.old ≡ None) }
-    ensures no_part { OnSyntax result ((x : Part) → plan.own_name name.now x cursor.old ≡ None) }
+    ensures routine { IfOk result (λ _. (x : Routine) → parts.own_name name.now x cursor.old ≡ Some (x, cursor.new)) }
+    ensures part { IfOk result (λ _. (x : Part) → parts.own_name name.now x cursor.old ≡ Some (x, cursor.new)) }
+    ensures no_routine { OnSyntax result ((x : Routine) → parts.own_name name.now x cursor.old ≡ None) }
+    ensures no_part { OnSyntax result ((x : Part) → parts.own_name name.now x cursor.old ≡ None) }
 {
     pass!(cursor, End);
     match cursor.peek() {
@@ -155,13 +167,14 @@ pub fn own_name(cursor: &mut Cursor<'_>, name: &Text) -> Result<(), ReadFault>
 }
 
 /// Reads a routine behind its name, `=`, `proc` and the bracket.
+#[tactic(auto, unfolding(crate::specs::Parts::routine_of))]
 pub fn routine_of(
     alloc: Global,
     cursor: &mut Cursor<'_>,
     name: Text,
     line: u32,
 ) -> Result<Routine, ReadFault>
-    ensures { Gives (λ x. x) result cursor.new (plan.routine_of 200 name line cursor.old) }
+    ensures { Gives (λ x. x) result cursor.new (parts.routine_of name line cursor.old) }
 {
     let params = params(alloc, cursor)?;
     let of = result_of(alloc, cursor)?;
@@ -179,7 +192,7 @@ pub fn routine_of(
 }
 
 /// Reads a routine.
-#[tactic(auto, unfolding(clu_grammar::specs::ProgramPlan::routine))]
+#[tactic(auto, using(crate::proofs::Steps::routines), unfolding(crate::specs::Parts::routine))]
 fn routine(alloc: Global, cursor: &mut Cursor<'_>) -> Result<Routine, ReadFault>
     ensures { Gives (λ x. x) result cursor.new (plan.routine 200 cursor.old) }
 {
@@ -191,6 +204,7 @@ fn routine(alloc: Global, cursor: &mut Cursor<'_>) -> Result<Routine, ReadFault>
 }
 
 /// Whether what comes next isn't the `end` of a cluster.
+#[tactic(auto, unfolding(crate::specs::Parts::goes_on))]
 fn goes_on(cursor: &Cursor<'_>) -> bool
     ensures { result ≡ parts.goes_on cursor.now }
 {

@@ -9,7 +9,7 @@ use Rattle.clu_stmt_reader.specs.declared.kind.Kind.{Kind}
 use Rattle.clu_stmt_reader.specs.declared.kind.Kind.TheVariants as kind
 use Rattle.clu_stmt_reader.specs.Parts as parts
 
-abbrev pub kind_of : Tokens → Kind
+unfoldable pub kind_of : Tokens → Kind
 kind_of (lexeme.Name _ _ ∷ lexeme.Key key.Colon _ ∷ _) = kind.Declaration
 kind_of (lexeme.Name _ _ ∷ lexeme.Key key.Becomes _ ∷ _) = kind.Assignment
 kind_of (lexeme.Key key.Once _ ∷ _) = kind.Remote
@@ -27,18 +27,18 @@ kind_of (lexeme.Key key.Begin _ ∷ _) = kind.Begin
 kind_of (lexeme.Key key.Region _ ∷ _) = kind.Region
 kind_of _ = kind.Front
 
-abbrev pub by_kind : ℕ → Kind → Parser Stmt
+unfoldable pub by_kind : ℕ → Kind → Parser Stmt
 by_kind d kind.Declaration ts = parts.declaration d ts
 by_kind d kind.Assignment ts = parts.assignment d ts
 by_kind d kind.Remote ts = parts.remote_call d (line_of ts) ts
 by_kind d kind.PutLine ts = parts.put_line d ts
 by_kind d kind.Sleep ts = parts.sleep d ts
 by_kind d kind.Fork ts = parts.fork d ts
-by_kind d kind.Return ts = parts.return d ts
+by_kind d kind.Return ts = parts.leave d ts
 by_kind d kind.Signal ts = parts.signal d ts
 by_kind d kind.If ts = parts.choice d ts
-by_kind d kind.While ts = parts.while d ts
-by_kind d kind.For ts = parts.for d ts
+by_kind d kind.While ts = parts.repeat d ts
+by_kind d kind.For ts = parts.each d ts
 by_kind d kind.Tagcase ts = parts.tagcase d ts
 by_kind d kind.Begin ts = parts.begin d ts
 by_kind d kind.Region ts = parts.region d ts

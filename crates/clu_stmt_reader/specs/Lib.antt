@@ -1,5 +1,4 @@
 pub mod Bodies
-pub mod Iters
 pub mod Kinds
 pub mod Loops
 pub mod Parts

@@ -4,13 +4,12 @@ ghost use Rattle.std.specs.Prelude.{◌≡◌, ◌≤◌, length, drop};
 ghost use Rattle.clu_grammar.specs.Grammar.{field_of, line_of};
 ghost use Rattle.clu_grammar.specs.StmtPlan as plan;
 ghost use Rattle.clu_expr_reader.specs.Gives.{Gives};
-ghost use Rattle.clu_stmt_reader.specs.Iters.{elements_of};
 ghost use Rattle.clu_stmt_reader.specs.Loops as loops;
 ghost use Rattle.clu_stmt_reader.specs.Parts as parts;
 
 use crate::pass::pass;
 use crate::sized::{SizedIter, SizedValue, SizedVariable};
-use clu_expr_reader::{Cursor, ReadFault, SizedShape, expr, shape};
+use clu_expr_reader::{Cursor, ReadFault, SizedExpr, SizedExprs, SizedShape, args, expr, shape};
 use clu_tree::{Iter, Key, Lexeme, Named, Text};
 use sqlite_items::{Boxed, Items};
 use std::alloc::Global;
@@ -22,6 +21,7 @@ pub fn at_comma(cursor: &Cursor<'_>) -> bool
     matches!(cursor.peek(), Some(Lexeme::Key(Key::Comma, _)))
 }
 
+#[tactic(auto, unfolding(crate::specs::Parts::name))]
 fn name(alloc: Global, cursor: &mut Cursor<'_>) -> Result<Text, ReadFault>
     ensures { Gives (λ x. x) result cursor.new (parts.name cursor.old) }
 {
@@ -57,6 +57,7 @@ fn named(name: Text, of: SizedShape) -> SizedVariable
 }
 
 /// Whether an opening bracket, a name and a colon come next.
+#[tactic(auto, unfolding(crate::specs::Parts::at_variable))]
 fn at_variable(cursor: &Cursor<'_>) -> bool
     ensures { result ≡ parts.at_variable cursor.now }
 {
@@ -72,6 +73,7 @@ fn at_variable(cursor: &Cursor<'_>) -> bool
 }
 
 /// Reads a variable in brackets.
+#[tactic(auto, unfolding(crate::specs::Parts::bound))]
 fn bound(alloc: Global, cursor: &mut Cursor<'_>, depth: u32) -> Result<SizedVariable, ReadFault>
     requires { depth ≤ 200 }
     ensures { Gives (λ x. x.variable) result cursor.new (parts.bound depth cursor.old) }
@@ -100,7 +102,53 @@ pub fn variable(
     Ok(SizedVariable::none())
 }
 
+/// Reads an expression and the bracket behind it.
+#[tactic(auto, unfolding(crate::specs::Parts::closing))]
+fn closing(alloc: Global, cursor: &mut Cursor<'_>, depth: u32) -> Result<SizedExpr, ReadFault>
+    requires { depth ≤ 200 }
+    ensures { Gives (λ x. x.expr) result cursor.new (parts.closing depth cursor.old) }
+{
+    let found = expr(alloc, cursor, depth, 5)?;
+    pass!(cursor, RParen);
+    Ok(found)
+}
+
+/// Reads an expression in brackets.
+#[tactic(auto, unfolding(crate::specs::Parts::bracketed_value))]
+pub fn bracketed_value(
+    alloc: Global,
+    cursor: &mut Cursor<'_>,
+    depth: u32,
+) -> Result<SizedExpr, ReadFault>
+    requires { depth ≤ 200 }
+    ensures { Gives (λ x. x.expr) result cursor.new (parts.bracketed_value depth cursor.old) }
+{
+    pass!(cursor, LParen);
+    closing(alloc, cursor, depth)
+}
+
+/// Reads arguments in brackets.
+#[tactic(auto, unfolding(crate::specs::Parts::given))]
+pub fn given(alloc: Global, cursor: &mut Cursor<'_>, depth: u32) -> Result<SizedExprs, ReadFault>
+    requires { depth ≤ 200 }
+    ensures { Gives (λ x. x.items) result cursor.new (parts.given depth cursor.old) }
+{
+    pass!(cursor, LParen);
+    args(alloc, cursor, depth)
+}
+
+/// Reads `:=` and the value behind it.
+#[tactic(auto, unfolding(crate::specs::Parts::new_value))]
+pub fn new_value(alloc: Global, cursor: &mut Cursor<'_>, depth: u32) -> Result<SizedExpr, ReadFault>
+    requires { depth ≤ 200 }
+    ensures { Gives (λ x. x.expr) result cursor.new (parts.new_value depth cursor.old) }
+{
+    pass!(cursor, Becomes);
+    expr(alloc, cursor, depth, 5)
+}
+
 /// Whether a bracket comes next that isn't the target of the following assignment.
+#[tactic(auto, unfolding(crate::specs::Parts::carries))]
 fn carries(cursor: &Cursor<'_>) -> bool
     ensures { result ≡ parts.carries cursor.now }
 {
@@ -113,13 +161,12 @@ fn carries(cursor: &Cursor<'_>) -> bool
 }
 
 /// Reads a value in brackets.
+#[tactic(auto, unfolding(crate::specs::Parts::enclosed))]
 fn enclosed(alloc: Global, cursor: &mut Cursor<'_>, depth: u32) -> Result<SizedValue, ReadFault>
     requires { depth ≤ 200 }
     ensures { Gives (λ x. x.value) result cursor.new (parts.enclosed depth cursor.old) }
 {
-    pass!(cursor, LParen);
-    let value = expr(alloc, cursor, depth, 5)?;
-    pass!(cursor, RParen);
+    let value = bracketed_value(alloc, cursor, depth)?;
     Ok(SizedValue::of(value))
 }
 
@@ -135,7 +182,19 @@ pub fn carried(alloc: Global, cursor: &mut Cursor<'_>, depth: u32) -> Result<Siz
     Ok(SizedValue::none())
 }
 
+/// Reads an expression and the comma behind it.
+#[tactic(auto, unfolding(crate::specs::Parts::lower))]
+fn lower(alloc: Global, cursor: &mut Cursor<'_>, depth: u32) -> Result<SizedExpr, ReadFault>
+    requires { depth ≤ 200 }
+    ensures { Gives (λ x. x.expr) result cursor.new (parts.lower depth cursor.old) }
+{
+    let found = expr(alloc, cursor, depth, 5)?;
+    pass!(cursor, Comma);
+    Ok(found)
+}
+
 /// Reads the numbers from one to another, behind `int$from_to(`.
+#[tactic(auto, unfolding(crate::specs::Parts::range))]
 fn range(
     alloc: Global,
     cursor: &mut Cursor<'_>,
@@ -145,10 +204,8 @@ fn range(
     requires { depth ≤ 200 }
     ensures { Gives (λ x. x.iter) result cursor.new (parts.range depth line cursor.old) }
 {
-    let from = expr(alloc, cursor, depth, 5)?;
-    pass!(cursor, Comma);
-    let to = expr(alloc, cursor, depth, 5)?;
-    pass!(cursor, RParen);
+    let from = lower(alloc, cursor, depth)?;
+    let to = closing(alloc, cursor, depth)?;
     let height = from.height.max(to.height);
     let iter = Iter::FromTo(from.expr.into_inner(), to.expr.into_inner(), line);
     Ok(SizedIter {
@@ -158,6 +215,7 @@ fn range(
 }
 
 /// Whether this very name and an opening bracket come next.
+#[tactic(auto, unfolding(crate::specs::Parts::at_operation))]
 fn at_operation(cursor: &Cursor<'_>, text: &[u8]) -> bool
     ensures { result ≡ parts.at_operation text.now cursor.now }
 {
@@ -171,6 +229,7 @@ fn at_operation(cursor: &Cursor<'_>, text: &[u8]) -> bool
 }
 
 /// Whether `int$from_to(` comes next.
+#[tactic(auto, unfolding(crate::specs::Parts::at_range))]
 fn at_range(cursor: &Cursor<'_>) -> bool
     ensures { result ≡ parts.at_range cursor.now }
 {
@@ -186,6 +245,7 @@ fn at_range(cursor: &Cursor<'_>) -> bool
 }
 
 /// Reads the array whose elements a `for` goes over, behind its type and `$elements(`.
+#[tactic(auto, unfolding(crate::specs::Parts::elements_of))]
 fn elements_of(
     alloc: Global,
     cursor: &mut Cursor<'_>,
@@ -194,10 +254,9 @@ fn elements_of(
     of: SizedShape,
 ) -> Result<SizedIter, ReadFault>
     requires { depth ≤ 200 }
-    ensures { Gives (λ x. x.iter) result cursor.new (elements_of depth line of.shape cursor.old) }
+    ensures { Gives (λ x. x.iter) result cursor.new (parts.elements_of depth line of.shape cursor.old) }
 {
-    let over = expr(alloc, cursor, depth, 5)?;
-    pass!(cursor, RParen);
+    let over = closing(alloc, cursor, depth)?;
     let height = of.height.max(over.height);
     let iter = Iter::Elements(of.shape, over.expr.into_inner(), line);
     Ok(SizedIter {
@@ -206,20 +265,45 @@ fn elements_of(
     })
 }
 
-/// Reads the elements of an array, as a `for` goes over them.
-#[tactic(auto, using(crate::proofs::Steps::elements))]
-fn elements(alloc: Global, cursor: &mut Cursor<'_>, depth: u32) -> Result<SizedIter, ReadFault>
+/// Reads a type and the `$` behind it.
+#[tactic(auto, unfolding(crate::specs::Parts::shape_dollar))]
+fn shape_dollar(alloc: Global, cursor: &mut Cursor<'_>, depth: u32) -> Result<SizedShape, ReadFault>
     requires { depth ≤ 200 }
-    ensures { Gives (λ x. x.iter) result cursor.new (parts.elements depth cursor.old) }
+    ensures { Gives (λ x. x.shape) result cursor.new (parts.shape_dollar depth cursor.old) }
 {
-    let line = cursor.first_line();
-    let of = shape(alloc, cursor, depth)?;
+    let found = shape(alloc, cursor, depth)?;
     pass!(cursor, Dollar);
+    Ok(found)
+}
+
+/// Reads the array whose elements a `for` goes over, behind its type and `$`.
+#[tactic(auto, using(crate::proofs::Steps::elements))]
+fn elements_behind(
+    alloc: Global,
+    cursor: &mut Cursor<'_>,
+    depth: u32,
+    line: u32,
+    of: SizedShape,
+) -> Result<SizedIter, ReadFault>
+    requires { depth ≤ 200 }
+    ensures { Gives (λ x. x.iter) result cursor.new (parts.elements_behind depth line of.shape cursor.old) }
+{
     if !at_operation(cursor, b"elements") {
         return Err(ReadFault::Syntax(cursor.line()));
     }
     cursor.skip_two();
     elements_of(alloc, cursor, depth, line, of)
+}
+
+/// Reads the elements of an array, as a `for` goes over them.
+#[tactic(auto, unfolding(crate::specs::Parts::elements))]
+fn elements(alloc: Global, cursor: &mut Cursor<'_>, depth: u32) -> Result<SizedIter, ReadFault>
+    requires { depth ≤ 200 }
+    ensures { Gives (λ x. x.iter) result cursor.new (parts.elements depth cursor.old) }
+{
+    let line = cursor.first_line();
+    let of = shape_dollar(alloc, cursor, depth)?;
+    elements_behind(alloc, cursor, depth, line, of)
 }
 
 /// Reads what stands at `int$from_to(`.

@@ -8,12 +8,13 @@ ghost use Rattle.clu_expr_reader.specs.Gives.{Gives};
 ghost use Rattle.clu_stmt_reader.specs.Parts as parts;
 ghost use Rattle.clu_stmt_reader.specs.Places.{place_of};
 
+use crate::follow::{given, new_value};
 use crate::node;
 use crate::pass::pass;
 use crate::place::Place;
 use crate::sized::{SizedStmt, SizedTarget};
 use clu_expr_reader::node::{call, field, fit, index};
-use clu_expr_reader::{Cursor, ReadFault, SizedExpr, args, atom, expr, group};
+use clu_expr_reader::{Cursor, ReadFault, SizedExpr, atom, expr, group};
 use clu_tree::{Expr, Key, Lexeme, Meant, Target, Text};
 use sqlite_items::Boxed;
 use std::alloc::Global;
@@ -37,8 +38,9 @@ fn place_node(
 }
 
 /// A field of what was read.
+#[tactic(auto, unfolding(crate::specs::Parts::field_place))]
 fn field_place(alloc: Global, cursor: &mut Cursor<'_>, of: SizedExpr) -> Result<Place, ReadFault>
-    ensures { Gives place_of result cursor.new (plan.field_place of.expr cursor.old) }
+    ensures { Gives place_of result cursor.new (parts.field_place of.expr cursor.old) }
 {
     if let Some(Lexeme::Name(name, _)) = cursor.peek() {
         let name = name.copy(alloc)?;
@@ -49,6 +51,7 @@ fn field_place(alloc: Global, cursor: &mut Cursor<'_>, of: SizedExpr) -> Result<
 }
 
 /// An element of what was read.
+#[tactic(auto, unfolding(crate::specs::Parts::item_place))]
 fn item_place(
     alloc: Global,
     cursor: &mut Cursor<'_>,
@@ -64,6 +67,7 @@ fn item_place(
 }
 
 /// A field or an element of a place.
+#[tactic(auto, unfolding(crate::specs::Parts::further))]
 fn further(
     alloc: Global,
     cursor: &mut Cursor<'_>,
@@ -90,6 +94,7 @@ fn further(
 }
 
 /// Whether a field or an element of what was read comes next.
+#[tactic(auto, unfolding(crate::specs::Parts::at_place))]
 fn at_place(cursor: &Cursor<'_>) -> bool
     ensures { result ≡ parts.at_place cursor.now }
 {
@@ -121,17 +126,18 @@ fn places(
 }
 
 /// A call of a routine, whose name and opening bracket come next.
+#[tactic(auto, unfolding(crate::specs::Parts::called))]
 fn called(alloc: Global, cursor: &mut Cursor<'_>, depth: u32) -> Result<SizedExpr, ReadFault>
     requires { depth ≤ 200 }
     ensures { Gives (λ x. x.expr) result cursor.new (parts.called depth cursor.old) }
 {
     let (name, line) = cursor.name(alloc)?;
-    pass!(cursor, LParen);
-    let given = args(alloc, cursor, depth)?;
+    let given = given(alloc, cursor, depth)?;
     call(alloc, cursor, depth, name, given, line)
 }
 
 /// Whether a name and an opening bracket come next.
+#[tactic(auto, unfolding(crate::specs::Parts::at_call))]
 fn at_call(cursor: &Cursor<'_>) -> bool
     ensures { result ≡ parts.at_call cursor.now }
 {
@@ -148,7 +154,7 @@ fn at_call(cursor: &Cursor<'_>) -> bool
 #[tactic(auto, using(crate::proofs::Steps::fronts))]
 fn front(alloc: Global, cursor: &mut Cursor<'_>, depth: u32) -> Result<SizedExpr, ReadFault>
     requires { depth ≤ 200 }
-    ensures { Gives (λ x. x.expr) result cursor.new (plan.front (parts.inner depth) depth cursor.old) }
+    ensures { Gives (λ x. x.expr) result cursor.new (parts.front depth cursor.old) }
 {
     if at_call(cursor) {
         return called(alloc, cursor, depth);
@@ -168,6 +174,7 @@ fn is_call(of: &Expr) -> bool
 }
 
 /// The assignment of what follows `:=`.
+#[tactic(auto, unfolding(crate::specs::Parts::assigned_to))]
 fn assigned(
     alloc: Global,
     cursor: &mut Cursor<'_>,
@@ -178,12 +185,12 @@ fn assigned(
     requires { depth ≤ 200 }
     ensures { Gives (λ x. x.stmt) result cursor.new (parts.assigned_to depth line target.target cursor.old) }
 {
-    pass!(cursor, Becomes);
-    let value = expr(alloc, cursor, depth, 5)?;
+    let value = new_value(alloc, cursor, depth)?;
     node::assign(cursor, depth, target, value, line)
 }
 
 /// The statement of what was read at its front, which began with a bracket if `grouped`.
+#[tactic(auto, using(crate::proofs::Steps::front_stmts))]
 fn front_stmt(
     alloc: Global,
     cursor: &mut Cursor<'_>,
@@ -193,7 +200,7 @@ fn front_stmt(
     place: Place,
 ) -> Result<SizedStmt, ReadFault>
     requires { depth ≤ 200 }
-    ensures { Gives (λ x. x.stmt) result cursor.new (plan.front_stmt (parts.inner depth) depth grouped line (place_of place) cursor.old) }
+    ensures { Gives (λ x. x.stmt) result cursor.new (parts.front_stmt depth grouped line (place_of place) cursor.old) }
 {
     match place {
         Place::FieldOf(of, name) => {
@@ -220,7 +227,10 @@ fn front_stmt(
             assigned(alloc, cursor, depth, line, target)
         }
         Place::Whole(of) => {
-            if grouped || !is_call(of.expr.get()) {
+            if grouped {
+                return Err(ReadFault::Syntax(cursor.line()));
+            }
+            if !is_call(of.expr.get()) {
                 return Err(ReadFault::Syntax(cursor.line()));
             }
             node::call(cursor, depth, of, line)
@@ -229,13 +239,15 @@ fn front_stmt(
 }
 
 /// Whether an opening bracket comes next.
+#[tactic(auto, unfolding(crate::specs::Parts::opens))]
 fn opens(cursor: &Cursor<'_>) -> bool
-    ensures { result ≡ plan.opens cursor.now }
+    ensures { result ≡ parts.opens cursor.now }
 {
     matches!(cursor.peek(), Some(Lexeme::Key(Key::LParen, _)))
 }
 
 /// Reads a statement that begins with a primary.
+#[tactic(auto, unfolding(crate::specs::Parts::from_front))]
 pub fn from_front(
     alloc: Global,
     cursor: &mut Cursor<'_>,

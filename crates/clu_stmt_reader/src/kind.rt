@@ -29,6 +29,7 @@ pub enum Kind {
     Front,
 }
 
+#[tactic(auto, unfolding(crate::specs::Kinds::kind_of))]
 fn kind_of_key(key: Key) -> Kind
     ensures { (n : ℕ) (r : Tokens) → result ≡ kind_of (Lexeme.Key key n ∷ r) }
 {
@@ -49,6 +50,7 @@ fn kind_of_key(key: Key) -> Kind
     }
 }
 
+#[tactic(auto, unfolding(crate::specs::Kinds::kind_of))]
 fn kind_of_name(cursor: &Cursor<'_>) -> Kind
     ensures { (x : List ℕ) (n : ℕ) (r : Tokens) → cursor.now ≡ Lexeme.Name x n ∷ r → result ≡ kind_of cursor.now }
 {
@@ -60,6 +62,7 @@ fn kind_of_name(cursor: &Cursor<'_>) -> Kind
 }
 
 /// What the next statement begins with.
+#[tactic(auto, unfolding(crate::specs::Kinds::kind_of))]
 pub fn next_kind(cursor: &Cursor<'_>) -> Kind
     ensures { result ≡ kind_of cursor.now }
 {

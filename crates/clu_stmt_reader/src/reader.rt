@@ -13,10 +13,10 @@ use crate::kind::{Kind, next_kind};
 use crate::pass::pass;
 use crate::sized::{
     SizedArm, SizedArms, SizedHandlers, SizedIter, SizedOthers, SizedStmt, SizedStmts, SizedTag,
-    SizedTags, SizedWhen, SizedWhens,
+    SizedTags, SizedVariable, SizedWhen, SizedWhens,
 };
 use crate::{node, simple};
-use clu_expr_reader::{Cursor, ReadFault, SizedShape, expr, shape};
+use clu_expr_reader::{Cursor, ReadFault, SizedExpr, SizedShape, expr, shape};
 use clu_tree::{Arm, Handlers, Key, Lexeme, Meant, TagArm, Text, When};
 use std::alloc::Global;
 
@@ -29,6 +29,7 @@ pub struct Reader<F> {
 }
 
 /// Whether an `elseif` comes next.
+#[tactic(auto, unfolding(crate::specs::Parts::at_arm))]
 fn at_arm(cursor: &Cursor<'_>) -> bool
     ensures { result ≡ parts.at_arm cursor.now }
 {
@@ -36,13 +37,23 @@ fn at_arm(cursor: &Cursor<'_>) -> bool
 }
 
 /// Whether a `tag` comes next.
+#[tactic(auto, unfolding(crate::specs::Parts::at_tag))]
 fn at_tag(cursor: &Cursor<'_>) -> bool
     ensures { result ≡ parts.at_tag cursor.now }
 {
     matches!(cursor.peek(), Some(Lexeme::Key(Key::Tag, _)))
 }
 
+/// Whether an `else` comes next.
+#[tactic(auto, unfolding(crate::specs::Parts::at_else))]
+fn at_else(cursor: &Cursor<'_>) -> bool
+    ensures { result ≡ parts.at_else cursor.now }
+{
+    matches!(cursor.peek(), Some(Lexeme::Key(Key::Else, _)))
+}
+
 /// Whether a `when` comes next.
+#[tactic(auto, unfolding(crate::specs::Parts::at_when))]
 fn at_when(cursor: &Cursor<'_>) -> bool
     ensures { result ≡ parts.at_when cursor.now }
 {
@@ -50,6 +61,7 @@ fn at_when(cursor: &Cursor<'_>) -> bool
 }
 
 /// Whether an `except` or a `resignal` comes next.
+#[tactic(auto, unfolding(crate::specs::Parts::at_suffix))]
 fn at_suffix(cursor: &Cursor<'_>) -> bool
     ensures { result ≡ parts.at_suffix cursor.now }
 {
@@ -60,6 +72,7 @@ fn at_suffix(cursor: &Cursor<'_>) -> bool
 }
 
 /// Whether `others:` comes next.
+#[tactic(auto, unfolding(crate::specs::Parts::at_others))]
 fn at_others(cursor: &Cursor<'_>) -> bool
     ensures { result ≡ parts.at_others cursor.now }
 {
@@ -91,13 +104,57 @@ impl<F: Fn(Global, &mut Cursor<'_>, u32) -> Result<SizedStmts, ReadFault>> Reade
         (self.inner)(self.alloc, cursor, self.depth - 1)
     }
 
+    /// An expression, and `then`.
+    #[tactic(auto, unfolding(crate::specs::Parts::condition))]
+    fn condition(&self, cursor: &mut Cursor<'_>) -> Result<SizedExpr, ReadFault>
+        requires { self.now.depth ≤ 200 }
+        ensures { Gives (λ x. x.expr) result cursor.new (parts.condition self.now.depth cursor.old) }
+    {
+        let test = expr(self.alloc, cursor, self.depth, 5)?;
+        pass!(cursor, Then);
+        Ok(test)
+    }
+
+    /// An expression, and `do`.
+    #[tactic(auto, unfolding(crate::specs::Parts::head))]
+    fn head(&self, cursor: &mut Cursor<'_>) -> Result<SizedExpr, ReadFault>
+        requires { self.now.depth ≤ 200 }
+        ensures { Gives (λ x. x.expr) result cursor.new (parts.head self.now.depth cursor.old) }
+    {
+        let found = expr(self.alloc, cursor, self.depth, 5)?;
+        pass!(cursor, Do);
+        Ok(found)
+    }
+
+    /// A variable in brackets, if one is written, and a colon.
+    #[tactic(auto, unfolding(crate::specs::Parts::variable_colon))]
+    fn variable_colon(&self, cursor: &mut Cursor<'_>) -> Result<SizedVariable, ReadFault>
+        requires { self.now.depth ≤ 200 }
+        ensures { Gives (λ x. x.variable) result cursor.new (parts.variable_colon self.now.depth cursor.old) }
+    {
+        let found = variable(self.alloc, cursor, self.depth)?;
+        pass!(cursor, Colon);
+        Ok(found)
+    }
+
+    /// A type, and `in`.
+    #[tactic(auto, unfolding(crate::specs::Parts::shape_in))]
+    fn shape_in(&self, cursor: &mut Cursor<'_>) -> Result<SizedShape, ReadFault>
+        requires { self.now.depth ≤ 200 }
+        ensures { Gives (λ x. x.shape) result cursor.new (parts.shape_in self.now.depth cursor.old) }
+    {
+        let found = shape(self.alloc, cursor, self.depth)?;
+        pass!(cursor, In);
+        Ok(found)
+    }
+
+    #[tactic(auto, unfolding(crate::specs::Parts::arm))]
     fn arm(&self, cursor: &mut Cursor<'_>) -> Result<SizedArm, ReadFault>
         requires { ReadsBodies self.now.depth (F.pre self.now.inner) (F.post self.now.inner) }
         ensures { Gives (λ x. x.arm) result cursor.new (parts.arm self.now.depth cursor.old) }
     {
         pass!(cursor, Elseif);
-        let test = expr(self.alloc, cursor, self.depth, 5)?;
-        pass!(cursor, Then);
+        let test = self.condition(cursor)?;
         let body = self.body(cursor)?;
         Ok(SizedArm {
             height: test.height.max(body.height),
@@ -124,11 +181,12 @@ impl<F: Fn(Global, &mut Cursor<'_>, u32) -> Result<SizedStmts, ReadFault>> Reade
     }
 
     /// The `else` part of a choice, if there is one, and the `end` of the choice.
+    #[tactic(auto, using(crate::proofs::Steps::other_parts))]
     fn otherwise(&self, cursor: &mut Cursor<'_>) -> Result<SizedOthers, ReadFault>
         requires { ReadsBodies self.now.depth (F.pre self.now.inner) (F.post self.now.inner) }
-        ensures { Gives (λ x. x.body) result cursor.new (plan.otherwise (parts.inner self.now.depth) self.now.depth cursor.old) }
+        ensures { Gives (λ x. x.body) result cursor.new (parts.otherwise self.now.depth cursor.old) }
     {
-        if let Some(Lexeme::Key(Key::Else, _)) = cursor.peek() {
+        if at_else(cursor) {
             cursor.skip();
             let body = self.ended(cursor)?;
             return Ok(SizedOthers::of(body));
@@ -137,14 +195,14 @@ impl<F: Fn(Global, &mut Cursor<'_>, u32) -> Result<SizedStmts, ReadFault>> Reade
         Ok(SizedOthers::none())
     }
 
+    #[tactic(auto, unfolding(crate::specs::Parts::tag))]
     fn tag(&self, cursor: &mut Cursor<'_>) -> Result<SizedTag, ReadFault>
         requires { ReadsBodies self.now.depth (F.pre self.now.inner) (F.post self.now.inner) }
         ensures { Gives (λ x. x.tag) result cursor.new (parts.tag self.now.depth cursor.old) }
     {
         pass!(cursor, Tag);
         let (name, _) = cursor.name(self.alloc)?;
-        let bound = variable(self.alloc, cursor, self.depth)?;
-        pass!(cursor, Colon);
+        let bound = self.variable_colon(cursor)?;
         let body = self.body(cursor)?;
         Ok(SizedTag {
             height: bound.height.max(body.height),
@@ -176,7 +234,7 @@ impl<F: Fn(Global, &mut Cursor<'_>, u32) -> Result<SizedStmts, ReadFault>> Reade
     #[tactic(auto, using(crate::proofs::Steps::other_parts))]
     fn others(&self, cursor: &mut Cursor<'_>) -> Result<SizedOthers, ReadFault>
         requires { ReadsBodies self.now.depth (F.pre self.now.inner) (F.post self.now.inner) }
-        ensures { Gives (λ x. x.body) result cursor.new (plan.others (parts.inner self.now.depth) self.now.depth cursor.old) }
+        ensures { Gives (λ x. x.body) result cursor.new (parts.others self.now.depth cursor.old) }
     {
         if at_others(cursor) {
             cursor.skip_two();
@@ -187,14 +245,14 @@ impl<F: Fn(Global, &mut Cursor<'_>, u32) -> Result<SizedStmts, ReadFault>> Reade
         Ok(SizedOthers::none())
     }
 
+    #[tactic(auto, unfolding(crate::specs::Parts::when))]
     fn when(&self, cursor: &mut Cursor<'_>) -> Result<SizedWhen, ReadFault>
         requires { ReadsBodies self.now.depth (F.pre self.now.inner) (F.post self.now.inner) }
         ensures { Gives (λ x. x.when) result cursor.new (parts.when self.now.depth cursor.old) }
     {
         pass!(cursor, When);
         let names = names(self.alloc, cursor)?;
-        let bound = variable(self.alloc, cursor, self.depth)?;
-        pass!(cursor, Colon);
+        let bound = self.variable_colon(cursor)?;
         let body = self.body(cursor)?;
         Ok(SizedWhen {
             height: bound.height.max(body.height),
@@ -229,7 +287,7 @@ impl<F: Fn(Global, &mut Cursor<'_>, u32) -> Result<SizedStmts, ReadFault>> Reade
         whens: SizedWhens,
     ) -> Result<SizedHandlers, ReadFault>
         requires { ReadsBodies self.now.depth (F.pre self.now.inner) (F.post self.now.inner) }
-        ensures { Gives (λ x. x.handlers) result cursor.new (plan.other_handler (parts.inner self.now.depth) self.now.depth whens.whens cursor.old) }
+        ensures { Gives (λ x. x.handlers) result cursor.new (parts.other_handler self.now.depth whens.whens cursor.old) }
     {
         let others = if at_others(cursor) {
             cursor.skip_two();
@@ -246,51 +304,78 @@ impl<F: Fn(Global, &mut Cursor<'_>, u32) -> Result<SizedStmts, ReadFault>> Reade
         })
     }
 
+    #[tactic(auto, unfolding(crate::specs::Parts::handlers))]
     fn handlers(&self, cursor: &mut Cursor<'_>) -> Result<SizedHandlers, ReadFault>
         requires { ReadsBodies self.now.depth (F.pre self.now.inner) (F.post self.now.inner) }
-        ensures { Gives (λ x. x.handlers) result cursor.new (plan.handlers (parts.inner self.now.depth) self.now.depth cursor.old) }
+        ensures { Gives (λ x. x.handlers) result cursor.new (parts.handlers self.now.depth cursor.old) }
     {
         let whens = self.whens(cursor)?;
         self.other_handler(cursor, whens)
     }
 
-    fn choice(&self, cursor: &mut Cursor<'_>) -> Result<SizedStmt, ReadFault>
+    /// Handlers, and `end`.
+    #[tactic(auto, unfolding(crate::specs::Parts::handlers_end))]
+    fn handlers_end(&self, cursor: &mut Cursor<'_>) -> Result<SizedHandlers, ReadFault>
         requires { ReadsBodies self.now.depth (F.pre self.now.inner) (F.post self.now.inner) }
-        ensures { Gives (λ x. x.stmt) result cursor.new (parts.choice self.now.depth cursor.old) }
+        ensures { Gives (λ x. x.handlers) result cursor.new (parts.handlers_end self.now.depth cursor.old) }
     {
-        let line = pass!(cursor, If);
-        let test = expr(self.alloc, cursor, self.depth, 5)?;
-        pass!(cursor, Then);
+        let found = self.handlers(cursor)?;
+        pass!(cursor, End);
+        Ok(found)
+    }
+
+    /// The rest of a choice, behind its first condition.
+    #[tactic(auto, unfolding(crate::specs::Parts::choice_of))]
+    fn choice_of(
+        &self,
+        cursor: &mut Cursor<'_>,
+        line: u32,
+        test: SizedExpr,
+    ) -> Result<SizedStmt, ReadFault>
+        requires { ReadsBodies self.now.depth (F.pre self.now.inner) (F.post self.now.inner) }
+        ensures { Gives (λ x. x.stmt) result cursor.new (parts.choice_of self.now.depth line test.expr cursor.old) }
+    {
         let body = self.body(cursor)?;
         let arms = self.arms(cursor)?;
         let others = self.otherwise(cursor)?;
         node::choice(cursor, self.depth, test, body, arms, others, line)
     }
 
+    #[tactic(auto, unfolding(crate::specs::Parts::choice))]
+    fn choice(&self, cursor: &mut Cursor<'_>) -> Result<SizedStmt, ReadFault>
+        requires { ReadsBodies self.now.depth (F.pre self.now.inner) (F.post self.now.inner) }
+        ensures { Gives (λ x. x.stmt) result cursor.new (parts.choice self.now.depth cursor.old) }
+    {
+        let line = pass!(cursor, If);
+        let test = self.condition(cursor)?;
+        self.choice_of(cursor, line, test)
+    }
+
+    #[tactic(auto, unfolding(crate::specs::Parts::repeat))]
     fn repeat(&self, cursor: &mut Cursor<'_>) -> Result<SizedStmt, ReadFault>
         requires { ReadsBodies self.now.depth (F.pre self.now.inner) (F.post self.now.inner) }
-        ensures { Gives (λ x. x.stmt) result cursor.new (parts.while self.now.depth cursor.old) }
+        ensures { Gives (λ x. x.stmt) result cursor.new (parts.repeat self.now.depth cursor.old) }
     {
         let line = pass!(cursor, While);
-        let test = expr(self.alloc, cursor, self.depth, 5)?;
-        pass!(cursor, Do);
+        let test = self.head(cursor)?;
         let body = self.ended(cursor)?;
         node::repeat(cursor, self.depth, test, body, line)
     }
 
+    #[tactic(auto, unfolding(crate::specs::Parts::each))]
     fn each(&self, cursor: &mut Cursor<'_>) -> Result<SizedStmt, ReadFault>
         requires { ReadsBodies self.now.depth (F.pre self.now.inner) (F.post self.now.inner) }
-        ensures { Gives (λ x. x.stmt) result cursor.new (parts.for self.now.depth cursor.old) }
+        ensures { Gives (λ x. x.stmt) result cursor.new (parts.each self.now.depth cursor.old) }
     {
         let line = pass!(cursor, For);
         let (name, _) = cursor.name(self.alloc)?;
         pass!(cursor, Colon);
-        let of = shape(self.alloc, cursor, self.depth)?;
-        pass!(cursor, In);
+        let of = self.shape_in(cursor)?;
         self.each_over(cursor, name, of, line)
     }
 
     /// What a `for` goes over, and `do`.
+    #[tactic(auto, unfolding(crate::specs::Parts::over))]
     fn over(&self, cursor: &mut Cursor<'_>) -> Result<SizedIter, ReadFault>
         requires { self.now.depth ≤ 200 }
         ensures { Gives (λ x. x.iter) result cursor.new (parts.over self.now.depth cursor.old) }
@@ -301,6 +386,7 @@ impl<F: Fn(Global, &mut Cursor<'_>, u32) -> Result<SizedStmts, ReadFault>> Reade
     }
 
     /// The statements inside another one, and `end`.
+    #[tactic(auto, unfolding(crate::specs::Parts::ended))]
     fn ended(&self, cursor: &mut Cursor<'_>) -> Result<SizedStmts, ReadFault>
         requires { ReadsBodies self.now.depth (F.pre self.now.inner) (F.post self.now.inner) }
         ensures { Gives (λ x. x.items) result cursor.new (parts.ended self.now.depth cursor.old) }
@@ -311,6 +397,7 @@ impl<F: Fn(Global, &mut Cursor<'_>, u32) -> Result<SizedStmts, ReadFault>> Reade
     }
 
     /// The rest of a `for`, behind `in`.
+    #[tactic(auto, unfolding(crate::specs::Parts::each_over))]
     fn each_over(
         &self,
         cursor: &mut Cursor<'_>,
@@ -319,13 +406,14 @@ impl<F: Fn(Global, &mut Cursor<'_>, u32) -> Result<SizedStmts, ReadFault>> Reade
         line: u32,
     ) -> Result<SizedStmt, ReadFault>
         requires { ReadsBodies self.now.depth (F.pre self.now.inner) (F.post self.now.inner) }
-        ensures { Gives (λ x. x.stmt) result cursor.new (parts.for_over self.now.depth name line of.shape cursor.old) }
+        ensures { Gives (λ x. x.stmt) result cursor.new (parts.each_over self.now.depth name line of.shape cursor.old) }
     {
         let over = self.over(cursor)?;
         let body = self.ended(cursor)?;
         node::each(cursor, self.depth, name, of, over, body, line)
     }
 
+    #[tactic(auto, unfolding(crate::specs::Parts::tagcase))]
     fn tagcase(&self, cursor: &mut Cursor<'_>) -> Result<SizedStmt, ReadFault>
         requires { ReadsBodies self.now.depth (F.pre self.now.inner) (F.post self.now.inner) }
         ensures { Gives (λ x. x.stmt) result cursor.new (parts.tagcase self.now.depth cursor.old) }
@@ -337,6 +425,7 @@ impl<F: Fn(Global, &mut Cursor<'_>, u32) -> Result<SizedStmts, ReadFault>> Reade
         node::tagcase(cursor, self.depth, of, tags, others, line)
     }
 
+    #[tactic(auto, unfolding(crate::specs::Parts::begin))]
     fn begin(&self, cursor: &mut Cursor<'_>) -> Result<SizedStmt, ReadFault>
         requires { ReadsBodies self.now.depth (F.pre self.now.inner) (F.post self.now.inner) }
         ensures { Gives (λ x. x.stmt) result cursor.new (parts.begin self.now.depth cursor.old) }
@@ -346,18 +435,19 @@ impl<F: Fn(Global, &mut Cursor<'_>, u32) -> Result<SizedStmts, ReadFault>> Reade
         node::begin(cursor, self.depth, body, line)
     }
 
+    #[tactic(auto, unfolding(crate::specs::Parts::region))]
     fn region(&self, cursor: &mut Cursor<'_>) -> Result<SizedStmt, ReadFault>
         requires { ReadsBodies self.now.depth (F.pre self.now.inner) (F.post self.now.inner) }
         ensures { Gives (λ x. x.stmt) result cursor.new (parts.region self.now.depth cursor.old) }
     {
         let line = pass!(cursor, Region);
-        let lock = expr(self.alloc, cursor, self.depth, 5)?;
-        pass!(cursor, Do);
+        let lock = self.head(cursor)?;
         let body = self.ended(cursor)?;
         node::region(cursor, self.depth, lock, body, line)
     }
 
     /// A statement without what is written behind it.
+    #[tactic(auto, unfolding(crate::specs::Kinds::by_kind))]
     fn alone(&self, cursor: &mut Cursor<'_>) -> Result<SizedStmt, ReadFault>
         requires { ReadsBodies self.now.depth (F.pre self.now.inner) (F.post self.now.inner) }
         ensures { Gives (λ x. x.stmt) result cursor.new (kinds.by_kind self.now.depth (kinds.kind_of cursor.old) cursor.old) }
@@ -381,7 +471,28 @@ impl<F: Fn(Global, &mut Cursor<'_>, u32) -> Result<SizedStmts, ReadFault>> Reade
         }
     }
 
+    /// The handlers of a statement, behind `except`, and `end`.
+    #[tactic(auto, unfolding(crate::specs::Parts::except))]
+    fn except(&self, cursor: &mut Cursor<'_>, of: SizedStmt) -> Result<SizedStmt, ReadFault>
+        requires { ReadsBodies self.now.depth (F.pre self.now.inner) (F.post self.now.inner) }
+        ensures { Gives (λ x. x.stmt) result cursor.new (parts.except self.now.depth of.stmt cursor.old) }
+    {
+        let handlers = self.handlers_end(cursor)?;
+        node::except(self.alloc, cursor, self.depth, of, handlers)
+    }
+
+    /// The exceptions that a statement resignals, behind `resignal`.
+    #[tactic(auto, unfolding(crate::specs::Parts::resignal))]
+    fn resignal(&self, cursor: &mut Cursor<'_>, of: SizedStmt) -> Result<SizedStmt, ReadFault>
+        requires { ReadsBodies self.now.depth (F.pre self.now.inner) (F.post self.now.inner) }
+        ensures { Gives (λ x. x.stmt) result cursor.new (parts.resignal self.now.depth of.stmt cursor.old) }
+    {
+        let names = names(self.alloc, cursor)?;
+        node::resignal(self.alloc, cursor, self.depth, of, names)
+    }
+
     /// What is written behind a statement.
+    #[tactic(auto, unfolding(crate::specs::Parts::suffix))]
     fn suffix(&self, cursor: &mut Cursor<'_>, of: SizedStmt) -> Result<SizedStmt, ReadFault>
         requires { ReadsBodies self.now.depth (F.pre self.now.inner) (F.post self.now.inner) }
         ensures { Gives (λ x. x.stmt) result cursor.new (parts.suffix self.now.depth of.stmt cursor.old) }
@@ -389,14 +500,11 @@ impl<F: Fn(Global, &mut Cursor<'_>, u32) -> Result<SizedStmts, ReadFault>> Reade
         match cursor.peek() {
             Some(Lexeme::Key(Key::Except, _)) => {
                 cursor.skip();
-                let handlers = self.handlers(cursor)?;
-                pass!(cursor, End);
-                node::except(self.alloc, cursor, self.depth, of, handlers)
+                self.except(cursor, of)
             }
             Some(Lexeme::Key(Key::Resignal, _)) => {
                 cursor.skip();
-                let names = names(self.alloc, cursor)?;
-                node::resignal(self.alloc, cursor, self.depth, of, names)
+                self.resignal(cursor, of)
             }
             _ => Err(ReadFault::Syntax(cursor.line())),
         }

@@ -2,21 +2,29 @@
 
 ghost use Rattle.std.specs.Prelude.{◌≡◌, ◌≤◌, IfOk};
 ghost use Rattle.clu_grammar.specs.Grammar.{line_of};
-ghost use Rattle.clu_grammar.specs.StmtPlan as plan;
 ghost use Rattle.clu_expr_reader.specs.Gives.{Gives};
 ghost use Rattle.clu_stmt_reader.specs.Parts as parts;
 
-use crate::follow::carried;
+use crate::follow::{bracketed_value, carried, given, new_value};
 use crate::node;
 use crate::pass::pass;
 use crate::remote::remote;
 use crate::sized::{SizedStmt, SizedTarget, SizedValue};
-use clu_expr_reader::{Cursor, ReadFault, SizedShape, args, expr, shape};
+use clu_expr_reader::{Cursor, ReadFault, SizedShape, expr, shape};
 use clu_tree::{Key, Lexeme, Meant, Target, Text};
 use sqlite_items::Boxed;
 use std::alloc::{AllocError, Global};
 
+/// Whether `:=` comes next.
+#[tactic(auto, unfolding(crate::specs::Parts::at_becomes))]
+fn at_becomes(cursor: &Cursor<'_>) -> bool
+    ensures { result ≡ parts.at_becomes cursor.now }
+{
+    matches!(cursor.peek(), Some(Lexeme::Key(Key::Becomes, _)))
+}
+
 /// Reads the initial value of a variable, if one is written.
+#[tactic(auto, using(crate::proofs::Steps::declarations))]
 fn declared(
     alloc: Global,
     cursor: &mut Cursor<'_>,
@@ -26,16 +34,16 @@ fn declared(
     of: SizedShape,
 ) -> Result<SizedStmt, ReadFault>
     requires { depth ≤ 200 }
-    ensures { Gives (λ x. x.stmt) result cursor.new (plan.declared (parts.inner depth) depth name line of.shape cursor.old) }
+    ensures { Gives (λ x. x.stmt) result cursor.new (parts.declared depth name line of.shape cursor.old) }
 {
-    if let Some(Lexeme::Key(Key::Becomes, _)) = cursor.peek() {
-        cursor.skip();
-        let value = SizedValue::of(expr(alloc, cursor, depth, 5)?);
-        return node::declare(cursor, depth, name, of, value, line);
+    if at_becomes(cursor) {
+        let value = new_value(alloc, cursor, depth)?;
+        return node::declare(cursor, depth, name, of, SizedValue::of(value), line);
     }
     node::declare(cursor, depth, name, of, SizedValue::none(), line)
 }
 
+#[tactic(auto, unfolding(crate::specs::Parts::declaration))]
 pub fn declaration(
     alloc: Global,
     cursor: &mut Cursor<'_>,
@@ -51,8 +59,9 @@ pub fn declaration(
 }
 
 /// Whether a remote call comes next.
+#[tactic(auto, unfolding(crate::specs::Parts::begins_remote))]
 fn begins_remote(cursor: &Cursor<'_>) -> bool
-    ensures { result ≡ plan.begins_remote cursor.now }
+    ensures { result ≡ parts.begins_remote cursor.now }
 {
     matches!(cursor.peek(), Some(Lexeme::Key(Key::Once | Key::Maybe, _)))
 }
@@ -68,6 +77,7 @@ fn named(alloc: Global, name: Text, line: u32) -> Result<SizedTarget, AllocError
 }
 
 /// Reads what a variable is assigned.
+#[tactic(auto, unfolding(crate::specs::Parts::assigned))]
 fn assigned(
     alloc: Global,
     cursor: &mut Cursor<'_>,
@@ -76,7 +86,7 @@ fn assigned(
     line: u32,
 ) -> Result<SizedStmt, ReadFault>
     requires { depth ≤ 200 }
-    ensures { Gives (λ x. x.stmt) result cursor.new (plan.assigned (parts.inner depth) depth name line cursor.old) }
+    ensures { Gives (λ x. x.stmt) result cursor.new (parts.assigned depth name line cursor.old) }
 {
     if begins_remote(cursor) {
         let call = remote(alloc, cursor, depth)?;
@@ -87,6 +97,7 @@ fn assigned(
     node::assign(cursor, depth, target, value, line)
 }
 
+#[tactic(auto, unfolding(crate::specs::Parts::assignment))]
 pub fn assignment(
     alloc: Global,
     cursor: &mut Cursor<'_>,
@@ -100,6 +111,7 @@ pub fn assignment(
     assigned(alloc, cursor, depth, name, line)
 }
 
+#[tactic(auto, unfolding(crate::specs::Parts::remote_call))]
 pub fn remote_call(
     alloc: Global,
     cursor: &mut Cursor<'_>,
@@ -113,48 +125,48 @@ pub fn remote_call(
     node::remote(cursor, depth, None, call, line)
 }
 
+#[tactic(auto, unfolding(crate::specs::Parts::put_line))]
 pub fn put_line(alloc: Global, cursor: &mut Cursor<'_>, depth: u32) -> Result<SizedStmt, ReadFault>
     requires { depth ≤ 200 }
     ensures { Gives (λ x. x.stmt) result cursor.new (parts.put_line depth cursor.old) }
 {
     let line = pass!(cursor, PutLine);
-    pass!(cursor, LParen);
-    let text = expr(alloc, cursor, depth, 5)?;
-    pass!(cursor, RParen);
+    let text = bracketed_value(alloc, cursor, depth)?;
     node::put_line(cursor, depth, text, line)
 }
 
+#[tactic(auto, unfolding(crate::specs::Parts::sleep))]
 pub fn sleep(alloc: Global, cursor: &mut Cursor<'_>, depth: u32) -> Result<SizedStmt, ReadFault>
     requires { depth ≤ 200 }
     ensures { Gives (λ x. x.stmt) result cursor.new (parts.sleep depth cursor.old) }
 {
     let line = pass!(cursor, Sleep);
-    pass!(cursor, LParen);
-    let time = expr(alloc, cursor, depth, 5)?;
-    pass!(cursor, RParen);
+    let time = bracketed_value(alloc, cursor, depth)?;
     node::sleep(cursor, depth, time, line)
 }
 
+#[tactic(auto, unfolding(crate::specs::Parts::fork))]
 pub fn fork(alloc: Global, cursor: &mut Cursor<'_>, depth: u32) -> Result<SizedStmt, ReadFault>
     requires { depth ≤ 200 }
     ensures { Gives (λ x. x.stmt) result cursor.new (parts.fork depth cursor.old) }
 {
     let line = pass!(cursor, Fork);
     let (name, _) = cursor.name(alloc)?;
-    pass!(cursor, LParen);
-    let given = args(alloc, cursor, depth)?;
+    let given = given(alloc, cursor, depth)?;
     node::fork(cursor, depth, name, given, line)
 }
 
+#[tactic(auto, unfolding(crate::specs::Parts::leave))]
 pub fn leave(alloc: Global, cursor: &mut Cursor<'_>, depth: u32) -> Result<SizedStmt, ReadFault>
     requires { depth ≤ 200 }
-    ensures { Gives (λ x. x.stmt) result cursor.new (parts.return depth cursor.old) }
+    ensures { Gives (λ x. x.stmt) result cursor.new (parts.leave depth cursor.old) }
 {
     let line = pass!(cursor, Return);
     let value = carried(alloc, cursor, depth)?;
     node::leave(cursor, depth, value, line)
 }
 
+#[tactic(auto, unfolding(crate::specs::Parts::signal))]
 pub fn signal(alloc: Global, cursor: &mut Cursor<'_>, depth: u32) -> Result<SizedStmt, ReadFault>
     requires { depth ≤ 200 }
     ensures { Gives (λ x. x.stmt) result cursor.new (parts.signal depth cursor.old) }
