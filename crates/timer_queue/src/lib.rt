@@ -2,8 +2,6 @@
 #![tactic(auto)]
 
 mod queue;
-#[cfg(test)]
-mod tests;
 
 pub use queue::{Memory, TimerQueue};
 pub use world_types::Owner;

@@ -9,10 +9,10 @@ use Rattle.world_types.specs.declared.effects.Line.{Line}
 use Rattle.world_types.specs.declared.effects.Effects.{Effects}
 use Rattle.world_types.specs.declared.effects.Entry.{Entry}
 use Rattle.world_rules.specs.Said.{plain_events}
-use Rattle.world_rules.specs.Plain.{World, plain}
+use Rattle.world_rules.specs.Plain.{plain}
 use Rattle.world_rules.specs.Legal.{ArePlain, IsPlainEvent, effects_of, tolds}
-use Rattle.world_rules.specs.Laws.{PlainLaw, RunsPlainly}
-use Rattle.world_rules.specs.Node.{NodeState, first_of_program, rules_of}
+use Rattle.world_rules.specs.Laws.{PlainLaw}
+use Rattle.world_rules.specs.Node.{first_of_program, rules_of}
 use Rattle.world_rules.specs.Transcript.{printed, transcript, written_by}
 use Rattle.world_rules.proofs.Erasing.{erase-plain}
 use Rattle.world_rules.proofs.Following.{same_effects}
