@@ -13,26 +13,7 @@ use Rattle.clu_text.specs.Spelling.{HasParts, closed, plain, escape, escaped, Is
 abbrev pub Left : ℕ → List ℕ → List ℕ → List ℕ → Type 0
 Left quote bytes found left = (content rest : List ℕ) × HasParts quote bytes content × HasParts quote left rest × (content ≡ found ++ rest)
 
-pub left_all : (quote : ℕ) (bytes content : List ℕ) → HasParts quote bytes content → Left quote bytes [] bytes
-left_all quote bytes content h = (content, content, h, h, refl)
-
 -- ---- the first part
-
-part_closed : (quote : ℕ) (w rest : List ℕ) (b : ℕ) (bytes : List ℕ) → w ≡ b ∷ bytes → b ≡ quote → quote ≢ 92 → HasParts quote w rest → HasParts quote w []
-part_closed quote _ rest b bytes e same q closed = closed
-part_closed quote _ rest b bytes e same q (plain {b = c} _ _ apart h) = let front : c ≡ b = cc in absurd (apart (front ∙ same))
-part_closed quote _ rest b bytes e same q (escape _ h) = let front : 92 ≡ b = cc in absurd (q (sym (front ∙ same)))
-
-pub closes_here : (quote : ℕ) (w : List ℕ) (b : ℕ) (bytes : List ℕ) → w ≡ b ∷ bytes → b ≡ quote → quote ≢ 92 → (content : List ℕ) × HasParts quote w content → HasParts quote w []
-closes_here quote w b bytes e same q h = part_closed quote w h.0 b bytes e same q h.1
-
-no_parts : (quote : ℕ) (w rest : List ℕ) → w ≡ [] → HasParts quote w rest → ⊥
-no_parts quote _ rest e closed = absurd cc
-no_parts quote _ rest e (plain _ _ _ h) = absurd cc
-no_parts quote _ rest e (escape _ h) = absurd cc
-
-pub never_empty : (quote : ℕ) (w : List ℕ) → w ≡ [] → (content : List ℕ) × HasParts quote w content → ⊥
-never_empty quote w e h = no_parts quote w h.0 e h.1
 
 part_plain : (quote : ℕ) (w content : List ℕ) (b : ℕ) (bytes : List ℕ) → w ≡ b ∷ bytes → b ≢ quote → b ≢ 92 → HasParts quote w content → (rest : List ℕ) × HasParts quote bytes rest × (content ≡ b ∷ rest)
 part_plain quote _ content b bytes e apart other closed = let front : quote ≡ b = cc in absurd (apart (sym front))
@@ -57,9 +38,6 @@ part_escape quote _ _ b bytes e q (escape {b = d} {c = c} {bytes = more} {conten
     let back : more ≡ bytes = cc in
     (c, rest, subst (λ x. escaped x ≡ Some c) front s, subst (λ (x : List ℕ). HasParts quote x rest) back h, refl)
 
-pub escape_stands : (quote : ℕ) (w : List ℕ) (b : ℕ) (bytes : List ℕ) → w ≡ 92 ∷ b ∷ bytes → quote ≢ 92 → (content : List ℕ) × HasParts quote w content → IsSome (escaped b)
-escape_stands quote w b bytes e q h = let s = part_escape quote w h.0 b bytes e q h.1 in ap is_some s.2
-
 pub begins_escape : (quote : ℕ) (w : List ℕ) (b c : ℕ) (bytes : List ℕ) → w ≡ 92 ∷ b ∷ bytes → quote ≢ 92 → escaped b ≡ Some c → IsFirstPart quote w c bytes
 begins_escape quote w b c bytes e q found = record {
   shorter = let size = ap length e in omega arith;
@@ -69,20 +47,7 @@ begins_escape quote w b c bytes e q found = record {
       (s.1, s.3, s.4 ∙ ap (λ x. x ∷ s.1) same);
 }
 
-part_escape_alone : (quote : ℕ) (w content : List ℕ) → w ≡ 92 ∷ [] → quote ≢ 92 → HasParts quote w content → ⊥
-part_escape_alone quote _ content e q closed = let front : quote ≡ 92 = cc in q front
-part_escape_alone quote _ content e q (plain {b = c} _ other _ h) = let front : c ≡ 92 = cc in other front
-part_escape_alone quote _ content e q (escape _ h) = absurd cc
-
-pub escape_alone : (quote : ℕ) (w : List ℕ) → w ≡ 92 ∷ [] → quote ≢ 92 → (content : List ℕ) × HasParts quote w content → ⊥
-escape_alone quote w e q h = part_escape_alone quote w h.0 e q h.1
-
 -- ---- part by part
-
-pub left_more : (quote : ℕ) (all found left : List ℕ) (b : ℕ) (behind : List ℕ) → IsFirstPart quote left b behind → Left quote all found left → Left quote all (found ++ b ∷ []) behind
-left_more quote all found left b behind first l =
-    let w = first.part l.1 l.3 in
-    (l.0, w.0, l.2, w.1, l.4 ∙ (ap (λ (x : List ℕ). found ++ x) w.2 ∙ sym (append_assoc found (b ∷ []) w.0)))
 
 only_closed : (quote : ℕ) (w rest : List ℕ) → w ≡ quote ∷ [] → quote ≢ 92 → HasParts quote w rest → rest ≡ []
 only_closed quote _ rest e q closed = refl
@@ -105,9 +70,6 @@ left_none quote all found left q done l =
     let e = one_content quote left l.1 [] q l.3 done in
     subst (HasParts quote all) (l.4 ∙ (ap (λ (x : List ℕ). found ++ x) e ∙ append-nil found)) l.2
 
-pub left_parts : (quote : ℕ) (all found left : List ℕ) → Left quote all found left → (content : List ℕ) × HasParts quote left content
-left_parts quote all found left l = (l.1, l.3)
-
 -- ---- tokens by kind
 
 pub symbol_token : (w : List ℕ) → IsToken kind.Symbol w → IsSymbol w
@@ -116,12 +78,6 @@ symbol_token w (a_symbol h) = h
 -- the bytes behind a quote
 behind_quote : (b : ℕ) (bytes : List ℕ) → take (length (b ∷ bytes) - 1) (drop 1 (b ∷ bytes)) ≡ bytes
 behind_quote b bytes = let n : length (b ∷ bytes) - 1 ≡ length bytes = omega arith in ap (λ k. take k bytes) n ∙ take_all (length bytes) bytes (omega arith)
-
-pub has_content : (w : List ℕ) → IsToken kind.Char w → (content : List ℕ) × HasParts 39 (take (length w - 1) (drop 1 w)) content
-has_content _ (a_char {c = c} {bytes = bytes} h) = (c ∷ [], subst (λ x. HasParts 39 x (c ∷ [])) (sym (behind_quote 39 bytes)) h)
-
-pub has_string_content : (w : List ℕ) → IsToken kind.Str w → (content : List ℕ) × HasParts 34 (take (length w - 1) (drop 1 w)) content
-has_string_content _ (a_string {bytes = bytes} {content = content} h _) = (content, subst (λ x. HasParts 34 x content) (sym (behind_quote 34 bytes)) h)
 
 -- the parts of a char are one
 pub one_part : (w parts : List ℕ) → IsToken kind.Char w → HasParts 39 (take (length w - 1) (drop 1 w)) parts → (c : ℕ) × (parts ≡ c ∷ [])

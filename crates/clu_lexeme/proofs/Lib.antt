@@ -1,4 +1,3 @@
-mod Numbers
 mod Contents
 mod Keys
 mod Listing

@@ -7,7 +7,8 @@ use Rattle.std.proofs.lemmas.List.Sums.{AllPass-from_list_all}
 use Rattle.std.proofs.lemmas.List.Elements.{All-contains, All-cons, All-nil, All-weaker}
 use Rattle.clu_text.specs.declared.token.TokenKind.{TokenKind}
 use Rattle.clu_text.specs.declared.token.TokenKind.TheVariants as kind
-use Rattle.clu_text.specs.Spelling.{is_lower, is_digit, is_word_byte, escaped, HasParts, closed, plain, escape, symbols, IsSymbol, IsSpelling, word, int, char, string, symbol, IsToken, a_word, an_int, a_char, a_string, a_symbol}
+use Rattle.byte_classes.specs.Classes.{is_lower, is_digit, is_word_byte}
+use Rattle.clu_text.specs.Spelling.{escaped, HasParts, closed, plain, escape, symbols, IsSymbol, IsSpelling, word, int, char, string, symbol, IsToken, a_word, an_int, a_char, a_string, a_symbol}
 use Rattle.clu_text.specs.Tokens.{is_blank}
 use Rattle.clu_text.specs.Front.{IsFront}
 use Rattle.clu_text.proofs.Fronts.{symbol_first, digit_isnt_lower, first_digit, token-spells, spelling-some}

@@ -9,7 +9,8 @@ use Rattle.std.proofs.lemmas.List.Elements.{All-cons, All-head, All-tail}
 use Rattle.clu_text.specs.declared.token.TokenKind.{TokenKind}
 use Rattle.clu_text.specs.declared.token.TokenKind.TheVariants as kind
 use Rattle.clu_text.specs.declared.quoted.Quoted.{Quoted}
-use Rattle.clu_text.specs.Spelling.{is_lower, is_digit, is_word_byte, IsWord, IsInt, HasParts, IsSymbol, IsSpelling, word, int, char, string, symbol, IsToken, a_word, an_int, a_char, a_string, a_symbol}
+use Rattle.byte_classes.specs.Classes.{is_lower, is_digit, is_word_byte}
+use Rattle.clu_text.specs.Spelling.{IsWord, IsInt, HasParts, IsSymbol, IsSpelling, word, int, char, string, symbol, IsToken, a_word, an_int, a_char, a_string, a_symbol}
 use Rattle.clu_text.specs.Front.{BeginsOther, Closes, IsFront, symbol_len}
 use Rattle.clu_text.proofs.Parts.{one_close}
 use Rattle.clu_text.proofs.Symbols.{Shape, one, two, shape, symbol_len-is, symbol_len-within, symbol_len-covers}

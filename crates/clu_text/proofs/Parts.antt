@@ -3,7 +3,8 @@ use Rattle.std.proofs.Common.{◌≡◌, ◌≢◌, ℕ, suc, ◌+◌, ◌≤◌
 use Rattle.std.specs.Prelude.{◌==◌, if◌then◌else◌, is_some}
 use Rattle.std.proofs.lemmas.Bool.{eq-eqb, ne_eqb, cases_Bool, cases_eq, cond-true, cond-false}
 use Rattle.std.proofs.lemmas.List.{at_drop_more, at_drop_all, take-append-drop, length-take-le}
-use Rattle.clu_text.specs.Spelling.{within, escaped, HasParts, closed, plain, escape}
+use Rattle.byte_classes.specs.Classes.{within}
+use Rattle.clu_text.specs.Spelling.{escaped, HasParts, closed, plain, escape}
 use Rattle.clu_text.specs.Front.{Closes}
 
 -- so many bytes with so many parts

@@ -6,7 +6,8 @@ use Rattle.std.proofs.lemmas.Bool.{eqb-true, cases_Bool, or_cases, and_parts, no
 use Rattle.std.proofs.lemmas.List.Sums.{AllPass-from_list_all}
 use Rattle.std.proofs.lemmas.List.Elements.{All-contains}
 use Rattle.std.proofs.lemmas.List.{take-append-drop, length-take-le}
-use Rattle.clu_text.specs.Spelling.{is_lower, is_digit, symbols, IsSymbol}
+use Rattle.byte_classes.specs.Classes.{is_lower, is_digit}
+use Rattle.clu_text.specs.Spelling.{symbols, IsSymbol}
 use Rattle.clu_text.specs.Front.{is_single, is_pair, symbol_len, BeginsOther}
 
 -- ---- what a symbol looks like

@@ -7,7 +7,8 @@ use Rattle.clu_text.specs.declared.front.Spelling.{Spelling}
 use Rattle.clu_text.specs.declared.token.Token.{Token}
 use Rattle.clu_text.specs.declared.token.TokenKind.{TokenKind}
 use Rattle.clu_text.specs.declared.quoted.Quoted.{Quoted}
-use Rattle.clu_text.specs.Spelling.{HasParts, IsSpelling, IsToken, is_lower, is_digit}
+use Rattle.byte_classes.specs.Classes.{is_lower, is_digit}
+use Rattle.clu_text.specs.Spelling.{HasParts, IsSpelling, IsToken}
 use Rattle.clu_text.specs.Tokens.{IsTokenAt, IsInRange, BeginsWide}
 
 -- the symbols of one byte

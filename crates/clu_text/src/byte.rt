@@ -2,30 +2,10 @@
 
 ghost use Rattle.std.specs.Prelude.{◌≡◌};
 ghost use Rattle.std.specs.Option.{is_some};
+ghost use Rattle.byte_classes.specs.Classes.{within};
 ghost use Rattle.clu_text.specs.Spelling as spelling;
 ghost use Rattle.clu_text.specs.Tokens as text;
 ghost use Rattle.clu_text.specs.Front as front;
-
-/// `a` to `z`.
-fn is_lower(b: u8) -> bool
-    ensures { result ≡ spelling.is_lower b }
-{
-    b'a' <= b && b <= b'z'
-}
-
-/// `0` to `9`.
-pub fn is_digit(b: u8) -> bool
-    ensures { result ≡ spelling.is_digit b }
-{
-    b'0' <= b && b <= b'9'
-}
-
-/// What may follow in a word.
-pub fn is_word_byte(b: u8) -> bool
-    ensures { result ≡ spelling.is_word_byte b }
-{
-    is_lower(b) || is_digit(b) || b == b'_'
-}
 
 /// A tab, the end of a line, a carriage return or a space.
 pub fn is_blank(b: u8) -> bool
@@ -36,7 +16,7 @@ pub fn is_blank(b: u8) -> bool
 
 /// What stands for itself in a char or a string, but for `\` and the quote in use.
 pub fn is_printable(b: u8) -> bool
-    ensures { result ≡ spelling.within 32 126 b }
+    ensures { result ≡ within 32 126 b }
 {
     b' ' <= b && b <= b'~'
 }

@@ -1,14 +1,15 @@
 //! The longest spelling at the front of the bytes.
 
 ghost use Rattle.std.specs.Prelude.{◌≡◌, ◌↔◌, ◌≤◌, ◌^◌, slice_index, IsTrue, Some, ◌∷◌};
-ghost use Rattle.std.specs.List.{prefix_len};
+ghost use Rattle.byte_classes.specs.Classes as classes;
 ghost use Rattle.clu_text.specs.Spelling as spelled;
 ghost use Rattle.clu_text.specs.Front.{FrontAnswer, BeginsOther};
 ghost use Rattle.clu_text.specs.Front as plan;
 
-use crate::byte::{is_digit, is_pair, is_single, is_word_byte};
+use crate::byte::{is_pair, is_single};
 use crate::quoted::find_parts;
 use crate::token::TokenKind;
+use byte_classes::{digits_len, word_len};
 
 /// The most bytes that a word has.
 const LONGEST_WORD: usize = 64;
@@ -23,21 +24,9 @@ pub struct Spelling {
     pub len: usize,
 }
 
-fn word_len(bytes: &[u8]) -> usize
-    ensures { result ≡ prefix_len spelled.is_word_byte bytes.now }
-{
-    bytes.iter().take_while(|b| is_word_byte(**b)).count()
-}
-
-fn int_len(bytes: &[u8]) -> usize
-    ensures { result ≡ prefix_len spelled.is_digit bytes.now }
-{
-    bytes.iter().take_while(|b| is_digit(**b)).count()
-}
-
 /// The word at the front, unless it is too long.
 fn word(bytes: &[u8]) -> Option<Spelling>
-    requires { IsTrue (spelled.is_lower (slice_index bytes.now 0)) }
+    requires { IsTrue (classes.is_lower (slice_index bytes.now 0)) }
     ensures { FrontAnswer bytes.now result }
 {
     let len = word_len(bytes);
@@ -52,12 +41,12 @@ fn word(bytes: &[u8]) -> Option<Spelling>
 
 /// The int at the front.
 fn int(bytes: &[u8]) -> Spelling
-    requires { IsTrue (spelled.is_digit (slice_index bytes.now 0)) }
+    requires { IsTrue (classes.is_digit (slice_index bytes.now 0)) }
     ensures { FrontAnswer bytes.now (Some result) }
 {
     Spelling {
         kind: TokenKind::Int,
-        len: int_len(bytes),
+        len: digits_len(bytes),
     }
 }
 

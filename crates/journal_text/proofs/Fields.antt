@@ -5,7 +5,7 @@ use Rattle.std.specs.Fmt.{decimal}
 use Rattle.std.proofs.lemmas.Bool.{eqb-true, eq-eqb, eqb-false, ne_eqb, leb-true, le-leb, lt-leb, and_parts, and_from, and_left, and_right, or_parts, not-false}
 use Rattle.std.proofs.lemmas.Fmt.{decimal_digit, decimal_step, decimal_by_steps}
 use lib.Pointwise.{pointwise}
-use Rattle.journal_text.specs.Grammar.{is_digit}
+use Rattle.byte_classes.specs.Classes.{is_digit}
 use Rattle.journal_text.specs.Reading.{◌>>=◌, text_at, digit_at, digits_on, number_at}
 
 -- the value of a step that found something

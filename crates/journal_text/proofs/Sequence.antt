@@ -20,37 +20,6 @@ pub record IsReadSoFar (bytes : List ℕ) (lines : List Told) (rest : List ℕ) 
   pub each : All InGrammar lines
   pub parts : bytes ≡ flat_map spelled lines ++ rest
 
-pub nothing_read : (bytes : List ℕ) → IsReadSoFar bytes [] bytes
-nothing_read bytes = record { few = omega arith; each = All-nil InGrammar; parts = refl }
-
-pub one_more : (bytes : List ℕ) (lines : List Told) (rest : List ℕ) (told : Told) (after : List ℕ) → IsReadSoFar bytes lines rest → length lines ≢ most_lines
-    → InGrammar told → rest ≡ spelled told ++ after → IsReadSoFar bytes (lines ++ told ∷ []) after
-one_more bytes lines rest told after so_far other fits e =
-    let longer : flat_map spelled (lines ++ told ∷ []) ≡ flat_map spelled lines ++ spelled told = flat_map-append spelled lines (told ∷ []) ∙ ap (λ (end : List ℕ). flat_map spelled lines ++ end) (append-nil (spelled told)) in
-    record {
-      few = omega (arith, so_far.few, length-append lines (told ∷ []));
-      each = All-push InGrammar lines told so_far.each fits;
-      parts = so_far.parts ∙ ap (λ (end : List ℕ). flat_map spelled lines ++ end) e ∙ sym (append_assoc (flat_map spelled lines) (spelled told) after) ∙ ap (λ (front : List ℕ). front ++ after) (sym longer);
-    }
-
-pub all_read : (bytes : List ℕ) (lines : List Told) (rest : List ℕ) → IsReadSoFar bytes lines rest → length rest ≡ 0 → IsJournal bytes lines
-all_read bytes lines [] so_far empty = record { few = so_far.few; each = so_far.each; whole = so_far.parts ∙ append-nil (flat_map spelled lines) }
-all_read bytes lines (b ∷ rest) so_far empty = absurd (omega arith)
-
--- the next line is bad
-pub first_bad : (bytes : List ℕ) (lines : List Told) (rest : List ℕ) → IsReadSoFar bytes lines rest → length rest ≢ 0
-    → (length lines ≡ most_lines) ⊎ BeginsWithNoLine rest → IsFirstBad bytes (length lines + 1)
-first_bad bytes lines rest so_far there bad = record {
-  before = lines;
-  rest = rest;
-  each = so_far.each;
-  parts = so_far.parts;
-  there = λ empty. there (ap length empty);
-  place = refl;
-  few = so_far.few;
-  bad = bad;
-}
-
 -- ---- there is one way to read
 
 -- the longer lines go on behind the shorter ones

@@ -1,6 +1,7 @@
 -- Which lines there are.
-use Rattle.std.specs.Prelude.{◌≡◌, ◌≢◌, ℕ, ◌+◌, ◌^◌, ◌<◌, ◌≤◌, Bool, ◌&&◌, ◌||◌, ◌==◌, nat_le, IsTrue, List, [], ◌∷◌, ◌++◌, All, length, ◌⊎◌, IfSome}
+use Rattle.std.specs.Prelude.{◌≡◌, ◌≢◌, ℕ, ◌+◌, ◌^◌, ◌<◌, ◌≤◌, IsTrue, List, [], ◌∷◌, ◌++◌, All, length, ◌⊎◌, IfSome}
 use Rattle.std.specs.List.{flat_map}
+use Rattle.byte_classes.specs.Classes.{is_lower, is_word_byte}
 use Rattle.world_types.specs.declared.event.Event.{Event}
 use Rattle.world_types.specs.declared.event.Event.TheVariants.{Turn, Packet, Tick, Stop, Halt, Resume, Ask, Answer, Set, Clear, HaltAll, ResumeAll, Say, Quit}
 use Rattle.world_types.specs.declared.event.Question.{Question}
@@ -28,22 +29,10 @@ IsStepCount steps = (0 < steps) × (steps ≤ 64)
 abbrev pub IsLine : ℕ → Type 0
 IsLine line = (0 < line) × (line ≤ 1048576)
 
--- `0` to `9`
-abbrev pub is_digit : ℕ → Bool
-is_digit b = nat_le 48 b && nat_le b 57
-
--- `a` to `z`
-abbrev pub is_letter : ℕ → Bool
-is_letter b = nat_le 97 b && nat_le b 122
-
--- what may follow in a name: a lower-case letter, a digit or `_`
-abbrev pub is_name_byte : ℕ → Bool
-is_name_byte b = is_letter b || is_digit b || b == 95
-
--- the name of a variable, at most 64 bytes: a lower-case letter, and what may follow in a name
+-- the name of a variable, at most 64 bytes: a lower-case letter, and what may follow in a word
 abbrev pub IsName : List ℕ → Type 0
 IsName [] = ⊥
-IsName (b ∷ bytes) = IsTrue (is_letter b) × All (λ x. IsTrue (is_name_byte x)) bytes × (length bytes < 64)
+IsName (b ∷ bytes) = IsTrue (is_lower b) × All (λ x. IsTrue (is_word_byte x)) bytes × (length bytes < 64)
 
 -- the numbers and the name of a question are within their bounds
 abbrev pub IsQuestion : Question → Type 0

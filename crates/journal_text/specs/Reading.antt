@@ -1,6 +1,7 @@
 -- Reading a line from left to right.
 use Rattle.std.specs.Prelude.{◌≡◌, ℕ, ◌+◌, ◌-◌, ◌*◌, ◌^◌, List, [], ◌∷◌, take, drop, Option, Some, None, Result, Ok, Err, nat_le, ◌==◌, ◌||◌, not, if◌then◌else◌, codes}
 use Rattle.std.specs.List.{prefix_len}
+use Rattle.byte_classes.specs.Classes.{is_lower, is_digit, is_word_byte}
 use Rattle.world_types.specs.declared.event.Event.{Event}
 use Rattle.world_types.specs.declared.event.Event.TheVariants.{Turn, Packet, Tick, Stop, Halt, Resume, Ask, Answer, Set, Clear, HaltAll, ResumeAll, Say, Quit}
 use Rattle.world_types.specs.declared.event.Kind.{Kind}
@@ -15,7 +16,6 @@ use Rattle.journal_text.specs.declared.fault.LineFault.TheVariants.{Bad, Memory}
 use Rattle.journal_text.specs.declared.word.Word.{Word}
 use Rattle.journal_text.specs.declared.word.Word.TheVariants as word
 use Rattle.journal_text.specs.declared.word.TheConstants.{WORDS}
-use Rattle.journal_text.specs.Grammar.{is_digit, is_letter, is_name_byte}
 
 infixl 10 ◌>>=◌
 abbrev pub ◌>>=◌ : {A B : Type 0} → Option A → (A → Option B) → Option B
@@ -120,8 +120,8 @@ word_at bytes = do
 unfoldable pub name_at : List ℕ → Option (List ℕ × List ℕ)
 name_at [] = None
 name_at (b ∷ bytes) =
-    if is_letter b
-    then Some (take (prefix_len is_name_byte (take 64 (b ∷ bytes))) (b ∷ bytes), drop (prefix_len is_name_byte (take 64 (b ∷ bytes))) (b ∷ bytes))
+    if is_lower b
+    then Some (take (prefix_len is_word_byte (take 64 (b ∷ bytes))) (b ∷ bytes), drop (prefix_len is_word_byte (take 64 (b ∷ bytes))) (b ∷ bytes))
     else None
 
 unfoldable pub word_name_at : List ℕ → Option (List ℕ × List ℕ)

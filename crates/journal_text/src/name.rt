@@ -2,44 +2,25 @@
 
 ghost use Rattle.std.specs.Prelude.{◌≡◌, ◌≤◌, length, take};
 ghost use Rattle.std.specs.List.{prefix_len};
-ghost use Rattle.journal_text.specs.Grammar as grammar;
+ghost use Rattle.byte_classes.specs.Classes.{is_word_byte};
 ghost use Rattle.journal_text.specs.Reading as reading;
 ghost use Rattle.journal_text.specs.Reading.{Gives};
 
 use crate::fault::LineFault;
 use crate::field::after;
+use byte_classes::{is_lower, word_len};
 use std::alloc::Global;
 use world_types::NameText;
 
 /// The most bytes that a name may have.
 const LONGEST_NAME: usize = 64;
 
-fn is_letter(b: u8) -> bool
-    ensures { result ≡ grammar.is_letter b }
-{
-    b'a' <= b && b <= b'z'
-}
-
-/// What may follow in a name.
-fn is_name_byte(b: u8) -> bool
-    ensures { result ≡ grammar.is_name_byte b }
-{
-    is_letter(b) || (b'0' <= b && b <= b'9') || b == b'_'
-}
-
-/// How many bytes at the front may stand in a name.
-fn run_len(bytes: &[u8]) -> usize
-    ensures { result ≡ prefix_len grammar.is_name_byte bytes.now }
-{
-    bytes.iter().take_while(|b| is_name_byte(**b)).count()
-}
-
-/// The same, up to the most that a name has.
+/// How many bytes at the front may stand in a name, up to the most that it has.
 fn name_len(bytes: &[u8]) -> usize
-    ensures len { result ≡ prefix_len grammar.is_name_byte (take 64 bytes.now) }
+    ensures len { result ≡ prefix_len is_word_byte (take 64 bytes.now) }
     ensures inside { result ≤ length bytes.now }
 {
-    run_len(&bytes[..LONGEST_NAME.min(bytes.len())])
+    word_len(&bytes[..LONGEST_NAME.min(bytes.len())])
 }
 
 /// The name at the front, and the bytes behind it.
@@ -50,7 +31,7 @@ fn name(alloc: Global, bytes: &[u8]) -> Result<(NameText, &[u8]), LineFault>
     let [first, ..] = bytes else {
         return Err(LineFault::Bad);
     };
-    if !is_letter(*first) {
+    if !is_lower(*first) {
         return Err(LineFault::Bad);
     }
     let (name, rest) = bytes.split_at(name_len(bytes));
