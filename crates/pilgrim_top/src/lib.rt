@@ -4,8 +4,6 @@
 mod replay;
 mod script;
 mod stop;
-#[cfg(test)]
-mod tests;
 mod top;
 mod usage;
 mod written;

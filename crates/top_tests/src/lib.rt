@@ -4,4 +4,8 @@
 #[cfg(test)]
 mod edges;
 #[cfg(test)]
+mod faults;
+#[cfg(test)]
+mod replays;
+#[cfg(test)]
 mod texts;
