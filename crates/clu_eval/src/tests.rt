@@ -263,7 +263,7 @@ fn steps_are_counted_and_told(rt: HostRuntime) -> Result<(), Fail> {
         (nothing(alloc)?, "1 ended; over"),
         (hello(alloc)?, "3 hi; 4 ended; over"),
         (nap(alloc)?, "3 sleep 100; 6 up; 7 ended; over"),
-        (no_nap(alloc)?, "6 up; 7 ended; over"),
+        (no_nap(alloc)?, "3 sleep 0; 6 up; 7 ended; over"),
         (
             arithmetic(alloc)?,
             "10 -4; 20 1; 37 overflow; 53 bounds; 54 ended; over",

@@ -40,12 +40,6 @@ unnoticed program lines sink sink' journal end laws law h =
 
 -- ---- faults
 
-pub rose : (shelf shelf' sink sink' : ℕ) (end : Result ℕ Stop) (status : ℕ) → CountsFaults shelf shelf' sink sink' end → status ≡ status_of end → status ≢ 4 → (shelf' ≡ shelf) × (sink' ≡ sink)
-rose shelf shelf' sink sink' (Ok s) status h e n = h
-rose shelf shelf' sink sink' (Err Unread) status h e n = absurd (n e)
-rose shelf shelf' sink sink' (Err Cut) status h e n = absurd (n e)
-rose shelf shelf' sink sink' (Err Memory) status h e n = h
-
 -- ---- a status of its own is no fault's
 
 says_status : (text : List ℕ) (status s : ℕ) (sink sink' : Option SinkTold) → Says text status sink sink' (Ok s) → status ≢ 4 → s ≢ 4

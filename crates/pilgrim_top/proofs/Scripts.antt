@@ -1,7 +1,6 @@
 -- The lines of a script, one after the other.
 use Rattle.std.proofs.Common.{◌≡◌, ◌≢◌, ◌⊎◌, ◌<◌, ◌==◌, inl, inr, ℕ, suc, ◌+◌, Bool, true, false, List, [], ◌∷◌, ◌++◌, length, reverse, Option, Some, Result, Ok, Err, refl, sym, ◌∙◌, ap, subst, arith, append_assoc, append-nil, length-append}
 use Rattle.std.specs.List.{flat_map}
-use Rattle.std.proofs.lemmas.Bool.{eqb-true}
 use Rattle.std.proofs.lemmas.List.{reverse-append}
 use Rattle.std.proofs.lemmas.List.Elements.{All-push}
 use Rattle.clu_tree.specs.declared.program.Program.{Program}
@@ -22,15 +21,6 @@ use Rattle.pilgrim_top.specs.Ends.{Says}
 use Rattle.pilgrim_top.specs.Script.{Applied, AppliesLine, Gained, IsRefused, can_run, illegal, in_entry, in_text, RanOut, RunsScript, entry_text, refusal_text}
 use Rattle.pilgrim_top.specs.declared.stop.Stop.{Stop}
 use Rattle.pilgrim_top.specs.declared.stop.Stop.TheVariants.{Unread, Cut, Memory}
-
--- a line of the grammar whose event can be run can be applied
-may_be : (event : Event) → IsEvent event → can_run event ≡ true → MayBeApplied event
-may_be (Turn node steps reading) h can = (h.1.0, h.1.1)
-may_be (Tick node) h can = tt
-may_be event h can = cc
-
-pub applies : (line : Told) → InGrammar line → can_run line.event ≡ true → MayBeApplied line.event
-applies line h can = may_be line.event h.1 can
 
 -- ---- what was applied
 
@@ -121,18 +111,6 @@ ends_refused row program script rest journal count sink mid sink' (Err Memory) a
   wrote = began_only row sink mid sink' (transcript journal) wrote says;
 }
 
--- all lines were applied
-pub ends_all : (program : Program) (script rest : List ℕ) (journal : List Entry) (count : ℕ) (sink sink' : Option SinkTold) → Applied program script journal rest count →
-    Wrote sink sink' (transcript journal) → rest ≡ [] → RunsScript program script sink sink' journal (Ok 0)
-ends_all program script rest journal count sink sink' a wrote empty = record {
-  rest = rest;
-  count = count;
-  text = [];
-  applied = a;
-  ends = inl (empty, refl, refl);
-  wrote = rw (append-nil (transcript journal)) wrote;
-}
-
 -- memory ran out before a line was applied
 pub ends_early : (program : Program) (script rest : List ℕ) (journal : List Entry) (count : ℕ) (sink sink' : Option SinkTold) → Applied program script journal rest count →
     Wrote sink sink' (transcript journal) → RunsScript program script sink sink' journal (Err Memory)
@@ -205,7 +183,3 @@ not_empty xs b is full e = differ (sym full ∙ is ∙ ap (λ (ys : List ℕ). l
   where
     differ : false ≡ true → ⊥
     differ h = cc
-
-pub is_empty : (xs : List ℕ) (b : Bool) → b ≡ (length xs == 0) → b ≡ true → xs ≡ []
-is_empty [] b is none = refl
-is_empty (x ∷ xs) b is none = absurd (omega (arith, eqb-true (suc (length xs)) 0 (sym is ∙ none)))
