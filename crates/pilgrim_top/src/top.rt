@@ -24,7 +24,7 @@ use world_types::Entry;
 /// | 2 | the program is too long or isn't accepted |
 /// | 4 | a file wasn't read, or what was to be written was cut short |
 /// | 5 | memory ran out |
-/// | 6 | a line of the script isn't in the grammar, or isn't legal after those before |
+/// | 6 | a line of the script isn't in the grammar, isn't legal after those before, can't run yet, or is line 1,000,001 |
 #[derive(Debug, Drop)]
 pub struct Still {
     pub status: u8,
