@@ -5,8 +5,6 @@ mod content;
 mod law;
 mod lexeme;
 mod table;
-#[cfg(test)]
-mod tests;
 
 pub use law::no_tokens_are_two_lists;
 pub use lexeme::{Memory, lexemes};

@@ -4,8 +4,6 @@
 mod accepting;
 mod fault;
 mod program;
-#[cfg(test)]
-mod tests;
 mod typing;
 
 pub use accepting::accept;

@@ -7,8 +7,6 @@ mod front;
 mod laws;
 mod quoted;
 mod scan;
-#[cfg(test)]
-mod tests;
 mod token;
 
 pub use fault::TextFault;

@@ -107,6 +107,12 @@ journal_is_read bytes (Ok read) good bad lines journal = one_journal bytes read.
 journal_is_read bytes (Err (BadLine k)) good bad lines journal = absurd (journal_or_bad bytes lines k journal (bad k refl))
 journal_is_read bytes (Err Memory) good bad lines journal = refl
 
+-- what is written is a journal of the lines
+pub is_written : {F : Type 0} (lines : List Told) (r : Result (Vec ℕ) F) → IfOk r (λ bytes. bytes.items ≡ flat_map spelled lines) → length lines ≤ most_lines → All InGrammar lines
+    → IfOk r (λ bytes. IsJournal bytes.items lines)
+is_written lines (Ok bytes) written few each = record { few = few; each = each; whole = written }
+is_written lines (Err fault) written few each = tt
+
 -- what is written is a journal of no other lines
 pub only_journal : {F : Type 0} (lines : List Told) (r : Result (Vec ℕ) F) → IfOk r (λ bytes. bytes.items ≡ flat_map spelled lines) → length lines ≤ most_lines → All InGrammar lines
     → IfOk r (λ bytes. (others : List Told) → IsJournal bytes.items others → others ≡ lines)

@@ -16,6 +16,3 @@ pub use journal::read_journal;
 pub use line::{FirstLine, first_line, spelling_is_unambiguous};
 pub use world_types::{Event, Kind, NameText, Question, SayWord, Told};
 pub use writing::write_journal;
-
-#[cfg(test)]
-mod tests;

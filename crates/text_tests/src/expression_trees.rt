@@ -1,32 +1,28 @@
 //! The trees that expressions and types read as.
 
-use super::repeated;
-use super::show::{Shown, Style};
-use crate::read_program;
-use clu_text::tokens;
-use clu_tree::Stmt;
+use crate::reading::repeated;
+use crate::shown::Style;
+use crate::trees::is_shown;
 use std::alloc::Global;
 use std::process::Abort;
-use std::test::Fail;
 
-/// An expression that stands on line 1, as its tree says it.
-fn shown(rt: &impl Abort, alloc: Global, style: Style, text: &str) -> Result<Shown, Fail> {
-    let whole = repeated(alloc, b"p = proc () x := ", text.as_bytes(), 1, b"\nend p")?;
-    assert!(rt; whole.len() <= 1048576);
-    let found = tokens(alloc, whole.as_slice())?;
-    let program = read_program(alloc, whole.as_slice(), found.as_slice())?;
-    let mut shown = Shown::new(alloc, style);
-    if let [routine] = program.routines.as_slice() {
-        if let [Stmt::Assign(_, value, _)] = routine.body.as_slice() {
-            shown.expr(value)?;
-        }
-    }
-    Ok(shown)
+/// Whether an expression that stands on line 1 is shown so, without lines.
+fn is_plain(rt: &impl Abort, alloc: Global, text: &str, wanted: &str) -> bool {
+    let whole = repeated(rt, alloc, "p = proc () x := ", text, 1, "\nend p");
+    let tree = repeated(rt, alloc, "p() { x := ", wanted, 1, " }; ");
+    is_shown(rt, alloc, Style::Plain, whole.as_str(), tree.as_str())
+}
+
+/// The same with the lines.
+fn is_on_lines(rt: &impl Abort, alloc: Global, text: &str, wanted: &str) -> bool {
+    let whole = repeated(rt, alloc, "p = proc () x := ", text, 1, "\nend p");
+    let tree = repeated(rt, alloc, "p()@1 { x@1 := ", wanted, 1, "@1 }; ");
+    is_shown(rt, alloc, Style::Lines, whole.as_str(), tree.as_str())
 }
 
 #[test]
-fn reads_each_primary(rt: HostRuntime) -> Result<(), Fail> {
-    for (text, wanted) in [
+fn reads_each_primary(rt: HostRuntime) {
+    static TABLE: [(&str, &str); 26] = [
         ("5", "5"),
         ("'A'", "'65"),
         ("\"hi\"", "\"hi"),
@@ -53,16 +49,15 @@ fn reads_each_primary(rt: HostRuntime) -> Result<(), Fail> {
         ("(a + b).c", "(a + b).c"),
         ("(f(x))", "f(x)"),
         ("f(x).g", "f(x).g"),
-    ] {
-        let found = shown(&rt, rt.alloc(), Style::Plain, text)?;
-        assert_eq!(rt; found.as_slice(), wanted.as_bytes(), "{text}");
+    ];
+    for &(text, wanted) in &TABLE {
+        assert!(rt; is_plain(&rt, rt.alloc(), text, wanted), "{text}");
     }
-    Ok(())
 }
 
 #[test]
-fn groups_operators(rt: HostRuntime) -> Result<(), Fail> {
-    for (text, wanted) in [
+fn groups_operators(rt: HostRuntime) {
+    static TABLE: [(&str, &str); 29] = [
         ("a * b / c // d", "(((a * b) / c) // d)"),
         ("a + b - c || d", "(((a + b) - c) || d)"),
         ("a < b", "(a < b)"),
@@ -92,16 +87,15 @@ fn groups_operators(rt: HostRuntime) -> Result<(), Fail> {
         ("-(a + b)", "(-(a + b))"),
         ("a - -b", "(a - (-b))"),
         ("f(x).a + b", "(f(x).a + b)"),
-    ] {
-        let found = shown(&rt, rt.alloc(), Style::Plain, text)?;
-        assert_eq!(rt; found.as_slice(), wanted.as_bytes(), "{text}");
+    ];
+    for &(text, wanted) in &TABLE {
+        assert!(rt; is_plain(&rt, rt.alloc(), text, wanted), "{text}");
     }
-    Ok(())
 }
 
 #[test]
-fn nodes_take_the_line_of_their_first_token(rt: HostRuntime) -> Result<(), Fail> {
-    for (text, wanted) in [
+fn nodes_take_the_line_of_their_first_token(rt: HostRuntime) {
+    static TABLE: [(&str, &str); 15] = [
         ("a\n+\nb", "(a@1 + b@3)@1"),
         ("(\na)\n+ b", "(a@2 + b@3)@1"),
         ("(\n(\na)).b", "a@3.b@1"),
@@ -117,17 +111,16 @@ fn nodes_take_the_line_of_their_first_token(rt: HostRuntime) -> Result<(), Fail>
         ("a\n.b\n[1]", "a@1.b@1[1@3]@1"),
         ("a *\nb + c", "((a@1 * b@2)@1 + c@2)@1"),
         ("a +\nb * c", "(a@1 + (b@2 * c@2)@2)@1"),
-    ] {
-        let found = shown(&rt, rt.alloc(), Style::Lines, text)?;
-        assert_eq!(rt; found.as_slice(), wanted.as_bytes(), "{text}");
+    ];
+    for &(text, wanted) in &TABLE {
+        assert!(rt; is_on_lines(&rt, rt.alloc(), text, wanted), "{text}");
     }
-    Ok(())
 }
 
 /// Each type stands in that of an empty array.
 #[test]
-fn reads_types(rt: HostRuntime) -> Result<(), Fail> {
-    for text in [
+fn reads_types(rt: HostRuntime) {
+    static TABLE: [&str; 14] = [
         "null",
         "bool",
         "int",
@@ -142,10 +135,12 @@ fn reads_types(rt: HostRuntime) -> Result<(), Fail> {
         "record[x: int]",
         "record[x: int, y: t]",
         "oneof[x: null, y: array[t]]",
-    ] {
-        let empty = format!(in rt.alloc(); "array[{text}]$[]")?;
-        let found = shown(&rt, rt.alloc(), Style::Plain, empty.as_str())?;
-        assert_eq!(rt; found.as_slice(), empty.as_bytes());
+    ];
+    for &text in &TABLE {
+        let empty = repeated(&rt, rt.alloc(), "array[", text, 1, "]$[]");
+        assert!(rt;
+            is_plain(&rt, rt.alloc(), empty.as_str(), empty.as_str()),
+            "{text}"
+        );
     }
-    Ok(())
 }
