@@ -3,8 +3,6 @@
 
 mod process;
 mod rows;
-#[cfg(test)]
-mod tests;
 
 pub use machine_rules::{Act, RemoteAsk, StepEnd};
 pub use process::{Memory, Process};

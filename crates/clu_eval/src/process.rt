@@ -39,7 +39,15 @@ impl Model for Process {
 
     ghost Value = { List Frame };
 
-    ghost coded = { Prim.hlevel (codes, shape.the_row.coded, expr.the_row.coded, stmt.the_row.coded, arm.the_row.coded, tag_arm.the_row.coded, handlers.the_row.coded) };
+    ghost coded = { Prim.hlevel (
+      codes,
+      shape.the_row.coded,
+      expr.the_row.coded,
+      stmt.the_row.coded,
+      arm.the_row.coded,
+      tag_arm.the_row.coded,
+      handlers.the_row.coded,
+    ) };
 
     ghost view = { λ p. p.frames };
 }
@@ -54,7 +62,8 @@ impl Process {
         args: Vec<Value>,
     ) -> Result<Process, Memory>
         requires { IsSome (slice_get program.now.routines routine) }
-        ensures { IfOk result (λ p. (r : Routine) → slice_get program.now.routines routine ≡ Some r → p ≡ rule.start routine r args.items) }
+        ensures { IfOk result (λ p.
+            (r : Routine) → slice_get program.now.routines routine ≡ Some r → p ≡ rule.start routine r args.items) }
     {
         match program.routines.get(routine as usize) {
             None => unreachable!(),
@@ -80,7 +89,9 @@ impl Process {
     ) -> Result<StepEnd, Memory>
         requires early { time < 2 ^ 63 }
         requires row { IsSome (rule.row (world_at program.now (S.seen store.old) vars.now time) self.old) }
-        ensures row { IfOk result (λ end. rule.row (world_at program.now (S.seen store.old) vars.now time) self.old ≡ took end.left end.act (S.seen store.new).objects self.new) }
+        ensures row { IfOk result (λ end.
+            rule.row (world_at program.now (S.seen store.old) vars.now time) self.old
+            ≡ took end.left end.act (S.seen store.new).objects self.new) }
         ensures kept { S.seen store.new ≡ holding (S.seen store.old) (S.seen store.new).objects }
     {
         step_row(alloc, program, store, vars, time, &mut self.frames)
@@ -134,7 +145,9 @@ fn step_row<S: Store>(
 ) -> Result<StepEnd, Memory>
     requires early { time < 2 ^ 63 }
     requires row { IsSome (rule.row (world_at program.now (S.seen store.old) vars.now time) frames.old) }
-    ensures row { IfOk result (λ end. rule.row (world_at program.now (S.seen store.old) vars.now time) frames.old ≡ took end.left end.act (S.seen store.new).objects frames.new) }
+    ensures row { IfOk result (λ end.
+        rule.row (world_at program.now (S.seen store.old) vars.now time) frames.old
+        ≡ took end.left end.act (S.seen store.new).objects frames.new) }
     ensures kept { S.seen store.new ≡ holding (S.seen store.old) (S.seen store.new).objects }
 {
     let Some(mut frame) = frames.pop() else {

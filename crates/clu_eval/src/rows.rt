@@ -34,7 +34,9 @@ pub fn row_at<S: Store>(
     requires time { w.time ≡ time }
     requires early { time < 2 ^ 63 }
     requires row { IsSome (rule.row_at w frame frames.old frame.work item) }
-    ensures row { IfOk result (λ end. rule.row_at w frame frames.old frame.work item ≡ took end.left end.act (S.seen store.new).objects frames.new) }
+    ensures row { IfOk result (λ end.
+        rule.row_at w frame frames.old frame.work item
+        ≡ took end.left end.act (S.seen store.new).objects frames.new) }
     ensures kept { S.seen store.new ≡ holding (S.seen store.old) (S.seen store.new).objects }
 {
     match item {

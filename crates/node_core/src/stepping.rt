@@ -25,7 +25,12 @@ pub fn step(
     requires none { objects.old ≡ [] }
     requires fits { FramesFit program.now process.old }
     requires goes_on { process.old ≢ [] }
-    ensures row { IfOk result (λ end. row (bare_world program.now time) process.old ≡ Some (record { left = end.left; act = end.act; store = []; frames = process.new })) }
+    ensures row { IfOk result (λ end. row (bare_world program.now time) process.old ≡ Some (record {
+      left = end.left;
+      act = end.act;
+      store = [];
+      frames = process.new;
+    })) }
     ensures fits { OnOk result (FramesFit program.now process.new) }
     ensures none { OnOk result (objects.new ≡ []) }
 {

@@ -37,8 +37,10 @@ pub fn replay<S: Shelf, K: Sink>(
     journal: &mut Vec<Entry>,
 ) -> Result<u8, Stop>
     requires { journal.old.items ≡ [] }
-    ensures counts { CountsFaults (S.faults shelf.old) (S.faults shelf.new) (K.faults sink.old) (K.faults sink.new) result }
-    ensures replays { Replays file.now script.now (S.told shelf.old) (S.told shelf.new) (K.told sink.old) (K.told sink.new) journal.new.items result }
+    ensures counts { CountsFaults (S.faults shelf.old) (S.faults shelf.new) (K.faults sink.old) (K.faults sink.new)
+        result }
+    ensures replays { Replays file.now script.now (S.told shelf.old) (S.told shelf.new) (K.told sink.old)
+        (K.told sink.new) journal.new.items result }
 {
     puts_in_a_row();
     let text = match shelf.load(alloc, file) {

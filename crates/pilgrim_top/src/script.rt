@@ -40,7 +40,8 @@ fn apply<K: Sink>(
     requires event { MayBeApplied line.now.event }
     requires early { line.now.stamp < 2 ^ 62 }
     ensures counts { CountsPuts (K.faults sink.old) (K.faults sink.new) result }
-    ensures applies { AppliesLine world.old world.new journal.old.items journal.new.items (K.told sink.old) (K.told sink.new) line.now result }
+    ensures applies { AppliesLine world.old world.new journal.old.items journal.new.items (K.told sink.old)
+        (K.told sink.new) line.now result }
 {
     let entry = match world.apply(alloc, line) {
         Ok(entry) => entry,

@@ -24,7 +24,7 @@ use world_types::Entry;
 /// | 2 | the program is too long or isn't accepted |
 /// | 4 | a file wasn't read, or what was to be written was cut short |
 /// | 5 | memory ran out |
-/// | 6 | a line of the script isn't in the grammar, isn't legal after those before, can't run yet, or is line 1,000,001 |
+/// | 6 | a line of the script isn't in the grammar, legal after those before or able to run yet, or is line 1,000,001 |
 #[derive(Debug, Drop)]
 pub struct Still {
     pub status: u8,
@@ -55,8 +55,10 @@ fn run<S: Shelf, K: Sink>(
     journal: &mut Vec<Entry>,
 ) -> Result<u8, Stop>
     requires { journal.old.items ≡ [] }
-    ensures counts { CountsFaults (S.faults shelf.old) (S.faults shelf.new) (K.faults sink.old) (K.faults sink.new) result }
-    ensures does { Does usage.now (S.told shelf.old) (S.told shelf.new) (K.told sink.old) (K.told sink.new) journal.new.items result }
+    ensures counts { CountsFaults (S.faults shelf.old) (S.faults shelf.new) (K.faults sink.old) (K.faults sink.new)
+        result }
+    ensures does { Does usage.now (S.told shelf.old) (S.told shelf.new) (K.told sink.old) (K.told sink.new)
+        journal.new.items result }
 {
     match usage {
         Usage::Replay(file, script) => replay(
@@ -79,14 +81,22 @@ pub fn top_still<S: Shelf, K: Sink>(
     sink: &mut K,
 ) -> Still
     // A fault is answered only where a count rose in this call, and where one rose the answer is this.
-    ensures fault { result.status ≡ 4 → (S.faults shelf.old < S.faults shelf.new) ⊎ (K.faults sink.old < K.faults sink.new) }
-    ensures no_fault { result.status ≢ 4 → (S.faults shelf.new ≡ S.faults shelf.old) × (K.faults sink.new ≡ K.faults sink.old) }
-    // Where they tell: if the shelf's count rose, one of the usage's loads failed, and if the sink's did, the room was less
-    // than the bytes for the journal and for the status without the fault.
-    ensures load_cause { S.faults shelf.old < S.faults shelf.new → LoadCause usage.now (S.told shelf.old) (S.told shelf.new) }
-    ensures room_cause { K.faults sink.old < K.faults sink.new → RoomCause usage.now (S.told shelf.old) (S.told shelf.new) (K.told sink.old) (K.told sink.new) result.journal.items }
+    ensures fault { result.status ≡ 4 →
+        (S.faults shelf.old < S.faults shelf.new) ⊎ (K.faults sink.old < K.faults sink.new) }
+    ensures no_fault { result.status ≢ 4 →
+        (S.faults shelf.new ≡ S.faults shelf.old) × (K.faults sink.new ≡ K.faults sink.old) }
+    // Where they tell: if the shelf's count rose, one of the usage's loads failed, and if the sink's did, the room was
+    // less than the bytes for the journal and for the status without the fault.
+    ensures load_cause { S.faults shelf.old < S.faults shelf.new →
+        LoadCause usage.now (S.told shelf.old) (S.told shelf.new) }
+    ensures room_cause { K.faults sink.old < K.faults sink.new →
+        RoomCause usage.now (S.told shelf.old) (S.told shelf.new) (K.told sink.old) (K.told sink.new)
+        result.journal.items }
     // The journal is legal, its events are the script's lines, and the debugger can't be noticed.
-    ensures does { (end : Result ℕ Stop) × (result.status ≡ status_of end) × Does usage.now (S.told shelf.old) (S.told shelf.new) (K.told sink.old) (K.told sink.new) result.journal.items end }
+    ensures does { (end : Result ℕ Stop)
+        × (result.status ≡ status_of end)
+        × Does usage.now (S.told shelf.old) (S.told shelf.new) (K.told sink.old) (K.told sink.new)
+        result.journal.items end }
 {
     following_laws();
     puts_in_a_row();
@@ -113,11 +123,19 @@ pub fn top_words<S: Shelf, K: Sink>(
     shelf: &mut S,
     sink: &mut K,
 ) -> Still
-    ensures fault { result.status ≡ 4 → (S.faults shelf.old < S.faults shelf.new) ⊎ (K.faults sink.old < K.faults sink.new) }
-    ensures no_fault { result.status ≢ 4 → (S.faults shelf.new ≡ S.faults shelf.old) × (K.faults sink.new ≡ K.faults sink.old) }
-    ensures load_cause { S.faults shelf.old < S.faults shelf.new → (usage : Usage) × IsUsage usage (texts_of words.now) × LoadCause usage (S.told shelf.old) (S.told shelf.new) }
-    ensures room_cause { K.faults sink.old < K.faults sink.new → WordsRoomCause (texts_of words.now) (S.told shelf.old) (S.told shelf.new) (K.told sink.old) (K.told sink.new) result.journal.items }
-    ensures does { (end : Result ℕ Stop) × (result.status ≡ status_of end) × WordsDo (texts_of words.now) (S.told shelf.old) (S.told shelf.new) (K.told sink.old) (K.told sink.new) result.journal.items end }
+    ensures fault { result.status ≡ 4 →
+        (S.faults shelf.old < S.faults shelf.new) ⊎ (K.faults sink.old < K.faults sink.new) }
+    ensures no_fault { result.status ≢ 4 →
+        (S.faults shelf.new ≡ S.faults shelf.old) × (K.faults sink.new ≡ K.faults sink.old) }
+    ensures load_cause { S.faults shelf.old < S.faults shelf.new →
+        (usage : Usage) × IsUsage usage (texts_of words.now) × LoadCause usage (S.told shelf.old) (S.told shelf.new) }
+    ensures room_cause { K.faults sink.old < K.faults sink.new →
+        WordsRoomCause (texts_of words.now) (S.told shelf.old) (S.told shelf.new) (K.told sink.old) (K.told sink.new)
+        result.journal.items }
+    ensures does { (end : Result ℕ Stop)
+        × (result.status ≡ status_of end)
+        × WordsDo (texts_of words.now) (S.told shelf.old) (S.told shelf.new) (K.told sink.old) (K.told sink.new)
+        result.journal.items end }
 {
     puts_in_a_row();
     let journal = Vec::new(alloc);

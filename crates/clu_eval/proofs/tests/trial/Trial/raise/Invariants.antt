@@ -1,4 +1,0 @@
-use Rattle.clu_eval.proofs.tests.trial.Trial.raise.Given as goal
-
-abbrev pub ghost-raise : goal.ghost-raise
-ghost-raise g a = g.w

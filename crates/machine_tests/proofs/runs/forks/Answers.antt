@@ -1,0 +1,8 @@
+use Rattle.std.proofs.Common.{◌∷◌, [], ap, ◌∙◌}
+use Rattle.clu_tree.specs.declared.tree.Stmt.{Stmt}
+use Rattle.clu_tree.specs.declared.program.Routine.{Routine}
+use Rattle.machine_tests.proofs.Runnable.{forks}
+use Rattle.machine_tests.proofs.runs.forks.Goals as goal
+
+pub run-requires : goal.run-requires
+run-requires g c = forks _ _ (c.one-body.ensures ∙ ap (λ (stmt : Stmt). stmt ∷ []) c.forked.ensures) (c.one-others.ensures ∙ ap (λ (r : Routine). r ∷ []) c.takes_number.ensures)
