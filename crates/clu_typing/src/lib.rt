@@ -1,0 +1,2 @@
+//! When a program is typed, and what each of its names and operators stands for then.
+#![tactic(auto)]
