@@ -1,0 +1,16 @@
+//! The laws, each as what a call ensures that does nothing.
+
+ghost use Rattle.std.specs.Prelude.{List, Option, ℕ};
+ghost use Rattle.clu_tree.specs.declared.shape.Shape.{Shape};
+ghost use Rattle.clu_typing.specs.Types.{Declarations};
+ghost use Rattle.clu_typing.specs.Laws.{GuardsLaw, SameLaw};
+
+/// Two types are the same exactly where their keys are equal, and being the same is an equivalence.
+pub fn same_law()
+    ensures { (d : Declarations) → SameLaw d }
+{}
+
+/// The innermost guard that takes an exception decides whether it may be raised; where none takes it, it may be.
+pub fn guards_law()
+    ensures { (d : Declarations) (n : List ℕ) (t : Option Shape) → GuardsLaw d n t }
+{}
