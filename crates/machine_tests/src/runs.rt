@@ -304,6 +304,7 @@ fn processes_wait_for_their_node(rt: HostRuntime) {
         (vars_used(&rt), "5 5; 8 set 1 to 7; 13 7; 14 ended; over"),
         (asks(&rt), "6 ask 1 at 2 for 2,3,; 12 5; 13 ended; over"),
         (signalled_on(&rt), "4 sync 0 1; 9 signal 0; 11 ended; over"),
+        (waits_on(&rt), "4 sync 0 1; 9 wait 0; 11 ended; over"),
         (
             got(&rt),
             "4 sync 0 1; 10 wait 0 for 50; 14 got; 15 ended; over",
