@@ -1,2 +1,12 @@
+pub mod BareExprs
+pub mod BareStmts
+pub mod Binds
+pub mod BlindExprs
+pub mod BlindParts
+pub mod BlindStmts
+pub mod FilledExprs
+pub mod FilledParts
+pub mod FilledStmts
+pub mod Filling
 pub mod Guards
 pub mod Sameness
