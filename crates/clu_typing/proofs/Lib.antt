@@ -9,4 +9,6 @@ pub mod FilledParts
 pub mod FilledStmts
 pub mod Filling
 pub mod Guards
+pub mod Holding
+pub mod Rounds
 pub mod Sameness

@@ -6,10 +6,11 @@ use Rattle.std.specs.List.{list_any}
 use Rattle.clu_tree.specs.declared.shape.Shape.{Shape}
 use Rattle.clu_tree.specs.declared.program.Program.{Program}
 use Rattle.clu_typing.specs.Same.{key}
-use Rattle.clu_typing.specs.Types.{Declarations, same}
+use Rattle.clu_typing.specs.Types.{Declarations, meanings, same, is_transmissible}
 use Rattle.clu_typing.specs.Exceptions.{Guard, takes, is_wanted, accepts}
-use Rattle.clu_typing.specs.Programs.{filled}
+use Rattle.clu_typing.specs.Programs.{declarations_of, filled}
 use Rattle.clu_typing.specs.Bare.{bare}
+use Rattle.clu_typing.specs.Holding.{Holds}
 
 -- Two types are the same exactly where their keys are equal, so being the same is an equivalence.
 pub record SameLaw (d : Declarations) : Type 0 where
@@ -31,3 +32,7 @@ pub record FillingLaw : Type 0 where
   pub same_tree : (p q : Program) → filled p ≡ Some q → bare q ≡ bare p
   pub blind : (p q : Program) → bare p ≡ bare q → filled p ≡ filled q
   pub once : (p q : Program) → filled p ≡ Some q → filled q ≡ Some q
+
+-- A type can be sent exactly where it holds no lock and no semaphore at any depth, through equates and reps.
+abbrev pub SendingLaw : Program → Shape → Type 0
+SendingLaw p t = Decides (is_transmissible (declarations_of p) t) (Holds (meanings p.equates p.clusters) t → ⊥)
