@@ -4,6 +4,7 @@ pub mod Binds
 pub mod BlindExprs
 pub mod BlindParts
 pub mod BlindStmts
+pub mod Computes
 pub mod FilledExprs
 pub mod FilledParts
 pub mod FilledStmts
@@ -12,3 +13,4 @@ pub mod Guards
 pub mod Holding
 pub mod Rounds
 pub mod Sameness
+pub mod Worked
