@@ -1,2 +1,16 @@
+pub mod BareExprs
+pub mod BareStmts
+pub mod Binds
+pub mod BlindExprs
+pub mod BlindParts
+pub mod BlindStmts
+pub mod Computes
+pub mod FilledExprs
+pub mod FilledParts
+pub mod FilledStmts
+pub mod Filling
 pub mod Guards
+pub mod Holding
+pub mod Rounds
 pub mod Sameness
+pub mod Worked

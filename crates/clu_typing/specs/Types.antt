@@ -218,9 +218,13 @@ rounds (suc n) all holding = (λ (more : List (List ℕ)). if nat_eq (length hol
 abbrev pub holding_in : List (List ℕ × Shape) → List (List ℕ)
 holding_in all = rounds (suc (length all)) all []
 
+-- what the names of types stand for: an equate's type, or a cluster's rep
+abbrev pub meanings : List Equate → List Cluster → List (List ℕ × Shape)
+meanings qs cs = map (λ q. (q.name, q.shape)) qs ++ map (λ c. (c.name, c.rep)) cs
+
 -- of the names of equates and of clusters alike
 abbrev pub holding_of : List Equate → List Cluster → List (List ℕ)
-holding_of qs cs = holding_in (map (λ q. (q.name, q.shape)) qs ++ map (λ c. (c.name, c.rep)) cs)
+holding_of qs cs = holding_in (meanings qs cs)
 
 -- the type can be sent
 abbrev pub is_transmissible : Declarations → Shape → Bool

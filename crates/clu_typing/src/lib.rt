@@ -3,4 +3,4 @@
 
 mod law;
 
-pub use law::{guards_law, same_law};
+pub use law::{filling_law, guards_law, same_law, sending_law};
