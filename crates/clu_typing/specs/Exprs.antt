@@ -128,7 +128,7 @@ is_top x h = bytes_eq x h.name && is_ownerless h.owner
 abbrev pub routine_named : Declarations → List ℕ → Option Head
 routine_named d x = find (is_top x) d.heads
 
--- the cluster of this name
+-- that this cluster is there and has this name
 abbrev pub is_owned : List ℕ → Option Cluster → Bool
 is_owned x None = false
 is_owned x (Some c) = bytes_eq x c.name

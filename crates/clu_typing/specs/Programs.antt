@@ -65,7 +65,8 @@ names_distinct p d = distinct (d.known ++ (map (λ n. n.name) p.node_vars ++ top
 abbrev pub owned_fine : List (List ℕ) → List (List ℕ) → Bool
 owned_fine listed own = distinct own && are_among own listed
 
--- A cluster's routines have distinct names, it lists each name at most once, and its rep has a meaning, without `rep` and `cvt`.
+-- A cluster's routines have distinct names; it lists names of its own routines alone, each at most once; and its rep has a meaning,
+-- without `rep` and `cvt`.
 abbrev pub cluster_typed : Declarations → Cluster → Bool
 cluster_typed d c = is_fine d.known false c.rep && (distinct c.listed && owned_fine c.listed (names_of_owned c.name d.heads))
 
@@ -85,7 +86,7 @@ abbrev pub initial_fits : Declarations → Shape → Option Initial → Bool
 initial_fits d t None = true
 initial_fits d t (Some (first.Literal v)) = is_some_same d (literal_type v) t
 initial_fits d t (Some first.Lock) = same d shape.Lock t
-initial_fits d t (Some (first.Semaphore n)) = same d shape.Semaphore t && int_le n most
+initial_fits d t (Some (first.Semaphore n)) = same d shape.Semaphore t && (int_le (pos 0) n && int_le n most)
 initial_fits d t (Some (first.Empty i)) = is_fine d.known false i && same d (shape.Arr i) t
 
 -- a node variable's type has a meaning outside clusters, and its initial value has that type
