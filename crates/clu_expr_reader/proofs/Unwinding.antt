@@ -6,7 +6,7 @@ use Rattle.clu_tree.specs.declared.lexeme.Lexeme.TheVariants as lexeme
 use Rattle.clu_tree.specs.declared.tree.Expr.{Expr}
 use Rattle.clu_grammar.specs.Grammar.{Tokens}
 use Rattle.clu_grammar.specs.ExprPlan.{Found, Parser, ◌>>=◌, closed, onward, plain, unwound, inside}
-use Rattle.clu_expr_reader.specs.Keys.{opens}
+use Rattle.clu_grammar.specs.StmtPlan.{opens}
 
 turned : (xs : List ℕ) (l : ℕ) → reverse (xs ++ l ∷ []) ≡ l ∷ reverse xs
 turned xs l = reverse-append xs (l ∷ [])

@@ -50,17 +50,8 @@ impl<'a> Cursor<'a> {
         }
     }
 
-    /// Whether `:=` comes next.
-    fn becomes(&self) -> bool
-        ensures { result ≡ becomes self.now }
-    {
-        match self.peek() {
-            Some(Lexeme::Key(Key::Becomes, _)) => true,
-            _ => false,
-        }
-    }
-
-    /// Whether a bracket that was just opened begins the target of an assignment: behind the closing one, `.id` and `[..]` may come, and then `:=`. It takes time in proportion to what it looks at.
+    /// Whether a bracket that was just opened begins the target of an assignment: behind the closing one, `.id` and
+    /// `[..]` may come, and then `:=`. It takes time in proportion to what it looks at.
     pub fn is_target(&self) -> bool
         ensures { result ≡ spec.is_target self.now }
     {

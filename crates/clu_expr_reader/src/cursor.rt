@@ -1,12 +1,14 @@
 //! A place among the tokens.
 
-ghost use Rattle.std.specs.Prelude.{◌≡◌, ◌∷◌, [], drop, length, ℕ, ℤ, List, MatchOption, IfOk, IsTrue, ◌↔◌, false};
+ghost use Rattle.std.specs.Prelude.{◌≡◌, ◌∷◌, [], drop, length, ℕ, ℤ, List, MatchOption, IfOk, false};
 ghost use Rattle.clu_tree.specs.declared.lexeme.Key.{Key};
+ghost use Rattle.clu_grammar.specs.Ahead.{becomes};
 ghost use Rattle.clu_grammar.specs.Grammar.{line_of, prefix_of, Tokens};
 ghost use Rattle.clu_grammar.specs.Grammar as grammar;
+ghost use Rattle.clu_grammar.specs.StmtPlan.{opens};
 ghost use Rattle.clu_expr_reader.specs.Faults.{OnSyntax};
 ghost use Rattle.clu_expr_reader.specs.Gives.{Gives};
-ghost use Rattle.clu_expr_reader.specs.Keys.{HasKeys, BeginsWith, is_signed, opens};
+ghost use Rattle.clu_expr_reader.specs.Keys.{at_comma, is_signed};
 ghost use Rattle.clu_expr_reader.specs.Parts.{label};
 
 use crate::fault::ReadFault;
@@ -125,39 +127,25 @@ impl<'a> Cursor<'a> {
         self.token_line().unwrap_or(0)
     }
 
-    /// Whether this key comes next.
-    pub fn is_at(&self, key: Key) -> bool
-        ensures { IsTrue result ↔ BeginsWith key self.now }
+    /// Whether a comma comes next.
+    pub fn at_comma(&self) -> bool
+        ensures { result ≡ at_comma self.now }
     {
-        match self.peek() {
-            Some(Lexeme::Key(found, _)) if *found == key => true,
-            _ => false,
-        }
+        matches!(self.peek(), Some(Lexeme::Key(Key::Comma, _)))
     }
 
-    /// Reads this key, and answers its line.
-    pub fn key(&mut self, key: Key) -> Result<u32, ReadFault>
-        ensures ok { IfOk result (λ l. self.old ≡ Lexeme.Key key l ∷ self.new) }
-        ensures syntax { OnSyntax result ((l : ℕ) (r : Tokens) → self.old ≡ Lexeme.Key key l ∷ r → ⊥) }
+    /// Whether an opening bracket comes next.
+    pub fn opens(&self) -> bool
+        ensures { result ≡ opens self.now }
     {
-        match self.peek() {
-            Some(Lexeme::Key(found, line)) if *found == key => {
-                self.skip();
-                Ok(*line)
-            }
-            _ => Err(ReadFault::Syntax(self.line())),
-        }
+        matches!(self.peek(), Some(Lexeme::Key(Key::LParen, _)))
     }
 
-    /// Reads these keys in order.
-    pub fn keys(&mut self, keys: &[Key]) -> Result<(), ReadFault>
-        ensures ok { IfOk result (λ _. HasKeys keys.now self.old self.new) }
-        ensures syntax { OnSyntax result ((r : Tokens) → HasKeys keys.now self.old r → ⊥) }
+    /// Whether `:=` comes next.
+    pub fn becomes(&self) -> bool
+        ensures { result ≡ becomes self.now }
     {
-        for key in keys {
-            self.key(*key)?;
-        }
-        Ok(())
+        matches!(self.peek(), Some(Lexeme::Key(Key::Becomes, _)))
     }
 
     /// Reads a name, and answers it with its line.
@@ -170,20 +158,6 @@ impl<'a> Cursor<'a> {
                 let name = name.copy(alloc)?;
                 self.skip();
                 Ok((name, *line))
-            }
-            _ => Err(ReadFault::Syntax(self.line())),
-        }
-    }
-
-    /// Reads this very name.
-    pub fn own_name(&mut self, name: &Text) -> Result<(), ReadFault>
-        ensures ok { IfOk result (λ _. (l : ℕ) × (self.old ≡ Lexeme.Name name.now l ∷ self.new)) }
-        ensures syntax { OnSyntax result ((l : ℕ) (r : Tokens) → self.old ≡ Lexeme.Name name.now l ∷ r → ⊥) }
-    {
-        match self.peek() {
-            Some(Lexeme::Name(found, _)) if found.is(name) => {
-                self.skip();
-                Ok(())
             }
             _ => Err(ReadFault::Syntax(self.line())),
         }
@@ -225,7 +199,8 @@ impl<'a> Cursor<'a> {
 
     /// A prefix operator that comes next, with its line.
     pub fn sign(&self) -> Option<(Prefix, u32)>
-        ensures { MatchOption result (is_signed self.now ≡ false) (λ p. self.now ≡ Lexeme.Key (prefix_of p.0) p.1 ∷ drop 1 self.now) }
+        ensures { MatchOption result (is_signed self.now ≡ false) (λ p.
+            self.now ≡ Lexeme.Key (prefix_of p.0) p.1 ∷ drop 1 self.now) }
     {
         match self.peek() {
             Some(Lexeme::Key(Key::Minus, line)) => Some((Prefix::Minus, *line)),
@@ -236,7 +211,8 @@ impl<'a> Cursor<'a> {
 
     /// The line of an opening bracket, if one comes next.
     pub fn opening(&self) -> Option<u32>
-        ensures { MatchOption result (opens self.now ≡ false) (λ l. self.now ≡ Lexeme.Key Key.LParen l ∷ drop 1 self.now) }
+        ensures { MatchOption result (opens self.now ≡ false) (λ l.
+            self.now ≡ Lexeme.Key Key.LParen l ∷ drop 1 self.now) }
     {
         match self.peek() {
             Some(Lexeme::Key(Key::LParen, line)) => Some(*line),
@@ -246,7 +222,9 @@ impl<'a> Cursor<'a> {
 
     /// The operator of this looseness, if one comes next.
     pub fn operator(&self, holds: u8) -> Option<Key>
-        ensures { MatchOption result ((o : Key) (n : ℕ) (m : Tokens) → self.now ≡ Lexeme.Key o n ∷ m → grammar.looseness o ≡ holds → ⊥) (λ o. (grammar.looseness o ≡ holds) × ((n : ℕ) × (self.now ≡ Lexeme.Key o n ∷ drop 1 self.now))) }
+        ensures { MatchOption result
+            ((o : Key) (n : ℕ) (m : Tokens) → self.now ≡ Lexeme.Key o n ∷ m → grammar.looseness o ≡ holds → ⊥)
+            (λ o. (grammar.looseness o ≡ holds) × ((n : ℕ) × (self.now ≡ Lexeme.Key o n ∷ drop 1 self.now))) }
     {
         match self.peek() {
             Some(Lexeme::Key(key, _)) if looseness(*key) == holds => Some(*key),

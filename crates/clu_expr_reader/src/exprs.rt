@@ -10,7 +10,8 @@ use crate::node::{SizedExpr, SizedExprs};
 use crate::reader::Reader;
 use std::alloc::Global;
 
-/// Reads an expression of at most `depth` levels whose operators hold at most as loosely as `looseness`: 5 is any expression, 0 an operand.
+/// Reads an expression of at most `depth` levels whose operators hold at most as loosely as `looseness`: 5 is any
+/// expression, 0 an operand.
 #[tactic(auto, unfolding(clu_grammar::specs::ExprPlan::levels))]
 pub fn expr(
     alloc: Global,
@@ -48,7 +49,8 @@ pub fn args(alloc: Global, cursor: &mut Cursor<'_>, depth: u32) -> Result<SizedE
     .args(cursor)
 }
 
-/// Reads a primary of at most `depth` levels that begins with no bracket, as it stands at the front of a statement: what is inside it may have as many levels.
+/// Reads a primary of at most `depth` levels that begins with no bracket, as it stands at the front of a statement:
+/// what is inside it may have as many levels.
 pub fn atom(alloc: Global, cursor: &mut Cursor<'_>, depth: u32) -> Result<SizedExpr, ReadFault>
     requires { depth ≤ 200 }
     ensures { Gives (λ x. x.expr) result cursor.new (plan.atom (plan.levels depth) depth cursor.old) }
@@ -62,7 +64,8 @@ pub fn atom(alloc: Global, cursor: &mut Cursor<'_>, depth: u32) -> Result<SizedE
     .atom(cursor)
 }
 
-/// Reads what stands behind an opening bracket at the front of a statement, of at most `depth` levels, and the closing bracket.
+/// Reads what stands behind an opening bracket at the front of a statement, of at most `depth` levels, and the closing
+/// bracket.
 pub fn group(alloc: Global, cursor: &mut Cursor<'_>, depth: u32) -> Result<SizedExpr, ReadFault>
     requires { depth ≤ 200 }
     ensures { Gives (λ x. x.expr) result cursor.new (plan.group (plan.levels depth) depth cursor.old) }

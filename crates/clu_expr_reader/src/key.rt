@@ -23,7 +23,8 @@ pub fn type_of(key: Key) -> Option<Shape>
     }
 }
 
-/// How loosely a symbol holds what stands on its two sides: 1 is tightest and 5 loosest. What goes on with a primary has 0, and what holds nothing 6.
+/// How loosely a symbol holds what stands on its two sides: 1 is tightest and 5 loosest. What goes on with a primary
+/// has 0, and what holds nothing 6.
 pub fn looseness(key: Key) -> u8
     ensures { result ≡ grammar.looseness key }
 {

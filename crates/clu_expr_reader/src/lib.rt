@@ -9,6 +9,7 @@ pub mod key;
 mod literals;
 pub mod node;
 mod operation;
+mod pass;
 mod reader;
 mod types;
 

@@ -1,4 +1,4 @@
-//! Expressions, with how deep each is. What has more than `depth` levels is a `Syntax` at the next token.
+//! Expressions, with how deep each is.
 #![tactic(auto, using(crate::proofs::Nodes::nodes), unfolding(clu_grammar::specs::ExprPlan::within))]
 
 ghost use Rattle.std.specs.Prelude.{◌≡◌, ◌+◌, max, List, [], ◌∷◌, ◌++◌, map, ◌≤◌, ◌<◌, ◌^◌, IfOk, OnOk};
@@ -22,6 +22,14 @@ pub struct SizedExpr {
     pub height: u32,
     ghost nests: { height ≡ expr_nesting expr },
     ghost small: { height ≤ 200 },
+}
+
+/// A node that was just made, with the number of its levels, which may be too many.
+#[derive(Drop)]
+pub struct ExprNode {
+    pub expr: Expr,
+    pub height: u32,
+    ghost nests: { height ≡ expr_nesting expr },
 }
 
 /// Expressions, with the number of the levels of the deepest.
@@ -89,228 +97,162 @@ impl SizedInits {
     }
 }
 
-/// The expression, which has so many levels, if those are at most `depth`.
-pub fn fit(
-    alloc: Global,
-    cursor: &Cursor<'_>,
-    depth: u32,
-    expr: Expr,
-    height: u32,
-) -> Result<SizedExpr, ReadFault>
-    requires nests { height ≡ expr_nesting expr }
-    requires small { depth ≤ 200 }
-    ensures { Gives (λ x. x.expr) result cursor.now (expr_within depth expr cursor.now) }
-{
-    if height > depth {
-        return Err(ReadFault::Syntax(cursor.line()));
+impl SizedExpr {
+    /// The expression, as a node that was just made.
+    pub fn into_node(self) -> ExprNode
+        ensures { result.expr ≡ self.expr }
+    {
+        ExprNode {
+            height: self.height,
+            expr: self.expr.into_inner(),
+        }
     }
-    let expr = Boxed::new(alloc, expr)?;
-    Ok(SizedExpr { expr, height })
 }
 
-/// A literal, if `depth` allows its one level.
-pub fn literal(
-    alloc: Global,
-    cursor: &Cursor<'_>,
-    depth: u32,
-    value: Value,
-    line: u32,
-) -> Result<SizedExpr, ReadFault>
-    requires { depth ≤ 200 }
-    ensures { Gives (λ x. x.expr) result cursor.now (expr_within depth (Expr.Literal value line) cursor.now) }
-{
-    fit(alloc, cursor, depth, Expr::Literal(value, line), 1)
+impl ExprNode {
+    /// The expression, if it has at most `depth` levels; else a `Syntax` at the next token.
+    pub fn fit(self, alloc: Global, cursor: &Cursor<'_>, depth: u32) -> Result<SizedExpr, ReadFault>
+        requires { depth ≤ 200 }
+        ensures { Gives (λ x. x.expr) result cursor.now (expr_within depth self.expr cursor.now) }
+    {
+        if self.height > depth {
+            return Err(ReadFault::Syntax(cursor.line()));
+        }
+        Ok(SizedExpr {
+            height: self.height,
+            expr: Boxed::new(alloc, self.expr)?,
+        })
+    }
 }
 
-/// A name, if `depth` allows its one level.
-pub fn name(
-    alloc: Global,
-    cursor: &Cursor<'_>,
-    depth: u32,
-    text: Text,
-    line: u32,
-) -> Result<SizedExpr, ReadFault>
-    requires { depth ≤ 200 }
-    ensures { Gives (λ x. x.expr) result cursor.now (expr_within depth (Expr.Name text line Meant.Unknown) cursor.now) }
+/// A literal.
+pub fn literal(value: Value, line: u32) -> ExprNode
+    ensures { result.expr ≡ Expr.Literal value line }
 {
-    fit(
-        alloc,
-        cursor,
-        depth,
-        Expr::Name(text, line, Meant::Unknown),
-        1,
-    )
+    ExprNode {
+        height: 1,
+        expr: Expr::Literal(value, line),
+    }
 }
 
-/// `now()`, if `depth` allows its one level.
-pub fn now(
-    alloc: Global,
-    cursor: &Cursor<'_>,
-    depth: u32,
-    line: u32,
-) -> Result<SizedExpr, ReadFault>
-    requires { depth ≤ 200 }
-    ensures { Gives (λ x. x.expr) result cursor.now (expr_within depth (Expr.Now line) cursor.now) }
+/// A name.
+pub fn name(text: Text, line: u32) -> ExprNode
+    ensures { result.expr ≡ Expr.Name text line Meant.Unknown }
 {
-    fit(alloc, cursor, depth, Expr::Now(line), 1)
+    ExprNode {
+        height: 1,
+        expr: Expr::Name(text, line, Meant::Unknown),
+    }
 }
 
-/// A call of a routine, if it has at most `depth` levels.
-pub fn call(
-    alloc: Global,
-    cursor: &Cursor<'_>,
-    depth: u32,
-    name: Text,
-    args: SizedExprs,
-    line: u32,
-) -> Result<SizedExpr, ReadFault>
-    requires { depth ≤ 200 }
-    ensures { Gives (λ x. x.expr) result cursor.now (expr_within depth (Expr.Call name args.items line Meant.Unknown) cursor.now) }
+/// `now()`.
+pub fn now(line: u32) -> ExprNode
+    ensures { result.expr ≡ Expr.Now line }
 {
-    let height = 1 + args.height;
-    let node = Expr::Call(name, args.items, line, Meant::Unknown);
-    fit(alloc, cursor, depth, node, height)
+    ExprNode {
+        height: 1,
+        expr: Expr::Now(line),
+    }
 }
 
-/// `T$op(..)`, if it has at most `depth` levels.
-pub fn operation(
-    alloc: Global,
-    cursor: &Cursor<'_>,
-    depth: u32,
-    of: SizedShape,
-    name: Text,
-    args: SizedExprs,
-    line: u32,
-) -> Result<SizedExpr, ReadFault>
-    requires { depth ≤ 200 }
-    ensures { Gives (λ x. x.expr) result cursor.now (expr_within depth (Expr.Op of.shape name args.items line Meant.Unknown) cursor.now) }
+/// A call of a routine.
+pub fn call(name: Text, args: SizedExprs, line: u32) -> ExprNode
+    ensures { result.expr ≡ Expr.Call name args.items line Meant.Unknown }
 {
-    let height = 1 + of.height.max(args.height);
-    let node = Expr::Op(of.shape, name, args.items, line, Meant::Unknown);
-    fit(alloc, cursor, depth, node, height)
+    ExprNode {
+        height: 1 + args.height,
+        expr: Expr::Call(name, args.items, line, Meant::Unknown),
+    }
 }
 
-/// `T${..}`, if it has at most `depth` levels.
-pub fn record_of(
-    alloc: Global,
-    cursor: &Cursor<'_>,
-    depth: u32,
-    of: SizedShape,
-    inits: SizedInits,
-    line: u32,
-) -> Result<SizedExpr, ReadFault>
-    requires { depth ≤ 200 }
-    ensures { Gives (λ x. x.expr) result cursor.now (expr_within depth (Expr.Record of.shape inits.inits line Meant.Unknown) cursor.now) }
+/// `T$op(..)`.
+pub fn operation(of: SizedShape, name: Text, args: SizedExprs, line: u32) -> ExprNode
+    ensures { result.expr ≡ Expr.Op of.shape name args.items line Meant.Unknown }
 {
-    let height = 1 + of.height.max(inits.height);
-    let node = Expr::Record(of.shape, inits.inits, line, Meant::Unknown);
-    fit(alloc, cursor, depth, node, height)
+    ExprNode {
+        height: 1 + of.height.max(args.height),
+        expr: Expr::Op(of.shape, name, args.items, line, Meant::Unknown),
+    }
 }
 
-/// `T$[..]`, if it has at most `depth` levels.
-pub fn array_of(
-    alloc: Global,
-    cursor: &Cursor<'_>,
-    depth: u32,
-    of: SizedShape,
-    items: SizedExprs,
-    line: u32,
-) -> Result<SizedExpr, ReadFault>
-    requires { depth ≤ 200 }
-    ensures { Gives (λ x. x.expr) result cursor.now (expr_within depth (Expr.Array of.shape items.items line Meant.Unknown) cursor.now) }
+/// `T${..}`.
+pub fn record_of(of: SizedShape, inits: SizedInits, line: u32) -> ExprNode
+    ensures { result.expr ≡ Expr.Record of.shape inits.inits line Meant.Unknown }
 {
-    let height = 1 + of.height.max(items.height);
-    let node = Expr::Array(of.shape, items.items, line, Meant::Unknown);
-    fit(alloc, cursor, depth, node, height)
+    ExprNode {
+        height: 1 + of.height.max(inits.height),
+        expr: Expr::Record(of.shape, inits.inits, line, Meant::Unknown),
+    }
 }
 
-/// An operator before its operand, if it has at most `depth` levels.
-pub fn unary(
-    alloc: Global,
-    cursor: &Cursor<'_>,
-    depth: u32,
-    op: Prefix,
-    of: SizedExpr,
-    line: u32,
-) -> Result<SizedExpr, ReadFault>
-    requires { depth ≤ 200 }
-    ensures { Gives (λ x. x.expr) result cursor.now (expr_within depth (Expr.Unary op of.expr line Meant.Unknown) cursor.now) }
+/// `T$[..]`.
+pub fn array_of(of: SizedShape, items: SizedExprs, line: u32) -> ExprNode
+    ensures { result.expr ≡ Expr.Array of.shape items.items line Meant.Unknown }
 {
-    let height = 1 + of.height;
-    let node = Expr::Unary(op, of.expr, line, Meant::Unknown);
-    fit(alloc, cursor, depth, node, height)
+    ExprNode {
+        height: 1 + of.height.max(items.height),
+        expr: Expr::Array(of.shape, items.items, line, Meant::Unknown),
+    }
 }
 
-/// `up(..)`, if it has at most `depth` levels.
-pub fn up(
-    alloc: Global,
-    cursor: &Cursor<'_>,
-    depth: u32,
-    of: SizedExpr,
-    line: u32,
-) -> Result<SizedExpr, ReadFault>
-    requires { depth ≤ 200 }
-    ensures { Gives (λ x. x.expr) result cursor.now (expr_within depth (Expr.Up of.expr line) cursor.now) }
+/// An operator before its operand.
+pub fn unary(op: Prefix, of: SizedExpr, line: u32) -> ExprNode
+    ensures { result.expr ≡ Expr.Unary op of.expr line Meant.Unknown }
 {
-    let height = 1 + of.height;
-    let node = Expr::Up(of.expr, line);
-    fit(alloc, cursor, depth, node, height)
+    ExprNode {
+        height: 1 + of.height,
+        expr: Expr::Unary(op, of.expr, line, Meant::Unknown),
+    }
 }
 
-/// `down(..)`, if it has at most `depth` levels.
-pub fn down(
-    alloc: Global,
-    cursor: &Cursor<'_>,
-    depth: u32,
-    of: SizedExpr,
-    line: u32,
-) -> Result<SizedExpr, ReadFault>
-    requires { depth ≤ 200 }
-    ensures { Gives (λ x. x.expr) result cursor.now (expr_within depth (Expr.Down of.expr line) cursor.now) }
+/// `up(..)`.
+pub fn up(of: SizedExpr, line: u32) -> ExprNode
+    ensures { result.expr ≡ Expr.Up of.expr line }
 {
-    let height = 1 + of.height;
-    let node = Expr::Down(of.expr, line);
-    fit(alloc, cursor, depth, node, height)
+    ExprNode {
+        height: 1 + of.height,
+        expr: Expr::Up(of.expr, line),
+    }
 }
 
-/// A field of an expression, if it has at most `depth` levels.
-pub fn field(
-    alloc: Global,
-    cursor: &Cursor<'_>,
-    depth: u32,
-    of: SizedExpr,
-    name: Text,
-    line: u32,
-) -> Result<SizedExpr, ReadFault>
-    requires { depth ≤ 200 }
-    ensures { Gives (λ x. x.expr) result cursor.now (expr_within depth (Expr.Field of.expr name line Meant.Unknown) cursor.now) }
+/// `down(..)`.
+pub fn down(of: SizedExpr, line: u32) -> ExprNode
+    ensures { result.expr ≡ Expr.Down of.expr line }
 {
-    let height = 1 + of.height;
-    let node = Expr::Field(of.expr, name, line, Meant::Unknown);
-    fit(alloc, cursor, depth, node, height)
+    ExprNode {
+        height: 1 + of.height,
+        expr: Expr::Down(of.expr, line),
+    }
 }
 
-/// An element of an expression, if it has at most `depth` levels.
-pub fn index(
-    alloc: Global,
-    cursor: &Cursor<'_>,
-    depth: u32,
-    of: SizedExpr,
-    at: SizedExpr,
-    line: u32,
-) -> Result<SizedExpr, ReadFault>
-    requires { depth ≤ 200 }
-    ensures { Gives (λ x. x.expr) result cursor.now (expr_within depth (Expr.Index of.expr at.expr line Meant.Unknown) cursor.now) }
+/// A field of an expression.
+pub fn field(of: SizedExpr, name: Text, line: u32) -> ExprNode
+    ensures { result.expr ≡ Expr.Field of.expr name line Meant.Unknown }
 {
-    let height = 1 + of.height.max(at.height);
-    let node = Expr::Index(of.expr, at.expr, line, Meant::Unknown);
-    fit(alloc, cursor, depth, node, height)
+    ExprNode {
+        height: 1 + of.height,
+        expr: Expr::Field(of.expr, name, line, Meant::Unknown),
+    }
 }
 
-fn binary(left: Boxed<Expr>, op: Infix, right: Boxed<Expr>, line: u32) -> Expr
-    ensures { result ≡ Expr.Binary left op right line Meant.Unknown }
+/// An element of an expression.
+pub fn index(of: SizedExpr, at: SizedExpr, line: u32) -> ExprNode
+    ensures { result.expr ≡ Expr.Index of.expr at.expr line Meant.Unknown }
 {
-    Expr::Binary(left, op, right, line, Meant::Unknown)
+    ExprNode {
+        height: 1 + of.height.max(at.height),
+        expr: Expr::Index(of.expr, at.expr, line, Meant::Unknown),
+    }
+}
+
+/// Two operands with an operator between them.
+fn binary(left: SizedExpr, op: Infix, right: SizedExpr, line: u32) -> ExprNode
+    ensures { result.expr ≡ Expr.Binary left.expr op right.expr line Meant.Unknown }
+{
+    ExprNode {
+        height: 1 + left.height.max(right.height),
+        expr: Expr::Binary(left.expr, op, right.expr, line, Meant::Unknown),
+    }
 }
 
 /// Two operands with the symbol between them, if they have at most `depth` levels. `a ~= b` is `~(a = b)`, two levels.
@@ -324,19 +266,23 @@ pub fn join(
     line: u32,
 ) -> Result<SizedExpr, ReadFault>
     requires { depth ≤ 200 }
-    ensures { Gives (λ x. x.expr) result cursor.now (expr_within depth (joined key left.expr right.expr line) cursor.now) }
+    ensures { Gives (λ x. x.expr) result cursor.now
+        (expr_within depth (joined key left.expr right.expr line) cursor.now) }
 {
-    let height = 1 + left.height.max(right.height);
     match key {
         Key::Differs => {
-            let equal = binary(left.expr, Infix::Equal, right.expr, line);
-            let equal = Boxed::new(alloc, equal)?;
-            let node = Expr::Unary(Prefix::Not, equal, line, Meant::Unknown);
-            fit(alloc, cursor, depth, node, height + 1)
+            let equal = binary(left, Infix::Equal, right, line);
+            let node = ExprNode {
+                height: equal.height + 1,
+                expr: Expr::Unary(
+                    Prefix::Not,
+                    Boxed::new(alloc, equal.expr)?,
+                    line,
+                    Meant::Unknown,
+                ),
+            };
+            node.fit(alloc, cursor, depth)
         }
-        other => {
-            let node = binary(left.expr, infix_of(other), right.expr, line);
-            fit(alloc, cursor, depth, node, height)
-        }
+        other => binary(left, infix_of(other), right, line).fit(alloc, cursor, depth),
     }
 }

@@ -42,7 +42,10 @@ fn closed(cursor: &mut Cursor<'_>, found: SizedExpr) -> Result<SizedExpr, ReadFa
 /// Reads the opening brackets, and answers their lines, the first one first.
 #[tactic(auto, using(crate::proofs::Unwinding::brackets))]
 fn open_brackets(alloc: Global, cursor: &mut Cursor<'_>) -> Result<Items<u32>, AllocError>
-    ensures { IfOk result (λ lines. (below : ℕ → plan.Parser Expr) (d : ℕ) → plan.inside below d [] cursor.old ≡ plan.unwound below d (reverse lines) (plan.plain below d 5 cursor.new)) }
+    ensures { IfOk result (λ lines.
+        (below : ℕ → plan.Parser Expr) (d : ℕ) →
+        plan.inside below d [] cursor.old
+        ≡ plan.unwound below d (reverse lines) (plan.plain below d 5 cursor.new)) }
 {
     let mut lines = Items::new(alloc);
     while let Some(line) = cursor.opening() {
@@ -65,7 +68,8 @@ impl<F: Fn(Global, &mut Cursor<'_>, u32, u8) -> Result<SizedExpr, ReadFault>> Re
     /// An expression and the bracket behind it.
     fn grouped(&self, cursor: &mut Cursor<'_>) -> Result<SizedExpr, ReadFault>
         requires nests { Nests self.now.below (F.pre self.now.expr) (F.post self.now.expr) }
-        ensures { Gives (λ x. x.expr) result cursor.new (plan.◌>>=◌ (plan.levels self.now.below 5 cursor.old) plan.closed) }
+        ensures { Gives (λ x. x.expr) result cursor.new
+            (plan.◌>>=◌ (plan.levels self.now.below 5 cursor.old) plan.closed) }
     {
         let found = self.below(cursor, 5)?;
         closed(cursor, found)
@@ -74,7 +78,8 @@ impl<F: Fn(Global, &mut Cursor<'_>, u32, u8) -> Result<SizedExpr, ReadFault>> Re
     /// An expression and the bracket of an index behind it.
     fn indexed(&self, cursor: &mut Cursor<'_>) -> Result<SizedExpr, ReadFault>
         requires nests { Nests self.now.below (F.pre self.now.expr) (F.post self.now.expr) }
-        ensures { Gives (λ x. x.expr) result cursor.new (plan.◌>>=◌ (plan.levels self.now.below 5 cursor.old) plan.bracketed) }
+        ensures { Gives (λ x. x.expr) result cursor.new
+            (plan.◌>>=◌ (plan.levels self.now.below 5 cursor.old) plan.bracketed) }
     {
         let found = self.below(cursor, 5)?;
         if let Some(Lexeme::Key(Key::RBracket, _)) = cursor.peek() {
@@ -88,7 +93,8 @@ impl<F: Fn(Global, &mut Cursor<'_>, u32, u8) -> Result<SizedExpr, ReadFault>> Re
     #[tactic(auto, using(crate::proofs::ExprSteps::item_steps), unfolding(clu_grammar::specs::ExprPlan::items))]
     fn items(&self, cursor: &mut Cursor<'_>) -> Result<SizedExprs, ReadFault>
         requires nests { Nests self.now.below (F.pre self.now.expr) (F.post self.now.expr) }
-        ensures { Gives (λ x. x.items) result cursor.new (plan.items (plan.levels self.now.below) self.now.depth (length cursor.old) cursor.old) }
+        ensures { Gives (λ x. x.items) result cursor.new
+            (plan.items (plan.levels self.now.below) self.now.depth (length cursor.old) cursor.old) }
     {
         let mut found = SizedExprs::new(self.alloc);
         for _turn in 0..cursor.left() {
@@ -105,7 +111,9 @@ impl<F: Fn(Global, &mut Cursor<'_>, u32, u8) -> Result<SizedExpr, ReadFault>> Re
     /// One or more expressions, and the bracket behind them.
     fn enclosed(&self, cursor: &mut Cursor<'_>) -> Result<SizedExprs, ReadFault>
         requires nests { Nests self.now.below (F.pre self.now.expr) (F.post self.now.expr) }
-        ensures { Gives (λ x. x.items) result cursor.new (plan.◌>>=◌ (plan.items (plan.levels self.now.below) self.now.depth (length cursor.old) cursor.old) plan.closed) }
+        ensures { Gives (λ x. x.items) result cursor.new
+            (plan.◌>>=◌ (plan.items (plan.levels self.now.below) self.now.depth (length cursor.old) cursor.old)
+            plan.closed) }
     {
         let found = self.items(cursor)?;
         if let Some(Lexeme::Key(Key::RParen, _)) = cursor.peek() {
@@ -119,7 +127,8 @@ impl<F: Fn(Global, &mut Cursor<'_>, u32, u8) -> Result<SizedExpr, ReadFault>> Re
     #[tactic(auto, unfolding(clu_grammar::specs::ExprPlan::args))]
     pub fn args(&self, cursor: &mut Cursor<'_>) -> Result<SizedExprs, ReadFault>
         requires nests { Nests self.now.below (F.pre self.now.expr) (F.post self.now.expr) }
-        ensures { Gives (λ x. x.items) result cursor.new (plan.args (plan.levels self.now.below) self.now.depth cursor.old) }
+        ensures { Gives (λ x. x.items) result cursor.new
+            (plan.args (plan.levels self.now.below) self.now.depth cursor.old) }
     {
         if let Some(Lexeme::Key(Key::RParen, _)) = cursor.peek() {
             cursor.skip();
@@ -131,7 +140,9 @@ impl<F: Fn(Global, &mut Cursor<'_>, u32, u8) -> Result<SizedExpr, ReadFault>> Re
     /// One or more expressions, and the bracket of an array behind them.
     fn bracketed(&self, cursor: &mut Cursor<'_>) -> Result<SizedExprs, ReadFault>
         requires nests { Nests self.now.below (F.pre self.now.expr) (F.post self.now.expr) }
-        ensures { Gives (λ x. x.items) result cursor.new (plan.◌>>=◌ (plan.items (plan.levels self.now.below) self.now.depth (length cursor.old) cursor.old) plan.bracketed) }
+        ensures { Gives (λ x. x.items) result cursor.new
+            (plan.◌>>=◌ (plan.items (plan.levels self.now.below) self.now.depth (length cursor.old) cursor.old)
+            plan.bracketed) }
     {
         let found = self.items(cursor)?;
         if let Some(Lexeme::Key(Key::RBracket, _)) = cursor.peek() {
@@ -144,7 +155,8 @@ impl<F: Fn(Global, &mut Cursor<'_>, u32, u8) -> Result<SizedExpr, ReadFault>> Re
     /// The elements of an array behind an opening bracket, and the closing one.
     fn elements(&self, cursor: &mut Cursor<'_>) -> Result<SizedExprs, ReadFault>
         requires nests { Nests self.now.below (F.pre self.now.expr) (F.post self.now.expr) }
-        ensures { Gives (λ x. x.items) result cursor.new (parts.elements (plan.levels self.now.below) self.now.depth cursor.old) }
+        ensures { Gives (λ x. x.items) result cursor.new
+            (parts.elements (plan.levels self.now.below) self.now.depth cursor.old) }
     {
         if let Some(Lexeme::Key(Key::RBracket, _)) = cursor.peek() {
             cursor.skip();
@@ -157,7 +169,8 @@ impl<F: Fn(Global, &mut Cursor<'_>, u32, u8) -> Result<SizedExpr, ReadFault>> Re
     #[tactic(auto, using(crate::proofs::ExprSteps::init_steps))]
     fn inits(&self, cursor: &mut Cursor<'_>) -> Result<SizedInits, ReadFault>
         requires nests { Nests self.now.below (F.pre self.now.expr) (F.post self.now.expr) }
-        ensures { Gives (λ x. x.inits) result cursor.new (plan.inits (plan.levels self.now.below) self.now.depth (length cursor.old) cursor.old) }
+        ensures { Gives (λ x. x.inits) result cursor.new
+            (plan.inits (plan.levels self.now.below) self.now.depth (length cursor.old) cursor.old) }
     {
         let mut found = SizedInits::new(self.alloc);
         for _turn in 0..cursor.left() {
@@ -175,7 +188,9 @@ impl<F: Fn(Global, &mut Cursor<'_>, u32, u8) -> Result<SizedExpr, ReadFault>> Re
     /// The fields of a record with their values, and the brace behind them.
     fn braced(&self, cursor: &mut Cursor<'_>) -> Result<SizedInits, ReadFault>
         requires nests { Nests self.now.below (F.pre self.now.expr) (F.post self.now.expr) }
-        ensures { Gives (λ x. x.inits) result cursor.new (plan.◌>>=◌ (plan.inits (plan.levels self.now.below) self.now.depth (length cursor.old) cursor.old) plan.braced) }
+        ensures { Gives (λ x. x.inits) result cursor.new
+            (plan.◌>>=◌ (plan.inits (plan.levels self.now.below) self.now.depth (length cursor.old) cursor.old)
+            plan.braced) }
     {
         let found = self.inits(cursor)?;
         if let Some(Lexeme::Key(Key::RBrace, _)) = cursor.peek() {
@@ -195,23 +210,24 @@ impl<F: Fn(Global, &mut Cursor<'_>, u32, u8) -> Result<SizedExpr, ReadFault>> Re
     ) -> Result<SizedExpr, ReadFault>
         requires small { self.now.depth ≤ 200 }
         requires nests { Nests self.now.below (F.pre self.now.expr) (F.post self.now.expr) }
-        ensures { Gives (λ x. x.expr) result cursor.new (plan.behind_type (plan.levels self.now.below) self.now.depth line of.shape cursor.old) }
+        ensures { Gives (λ x. x.expr) result cursor.new
+            (plan.behind_type (plan.levels self.now.below) self.now.depth line of.shape cursor.old) }
     {
         match cursor.peek() {
             Some(Lexeme::Key(Key::LBrace, _)) => {
                 cursor.skip();
                 let inits = self.braced(cursor)?;
-                node::record_of(self.alloc, cursor, self.depth, of, inits, line)
+                node::record_of(of, inits, line).fit(self.alloc, cursor, self.depth)
             }
             Some(Lexeme::Key(Key::LBracket, _)) => {
                 cursor.skip();
                 let items = self.elements(cursor)?;
-                node::array_of(self.alloc, cursor, self.depth, of, items, line)
+                node::array_of(of, items, line).fit(self.alloc, cursor, self.depth)
             }
             _ => {
                 let name = op_name(self.alloc, cursor)?;
                 let args = self.args(cursor)?;
-                node::operation(self.alloc, cursor, self.depth, of, name, args, line)
+                node::operation(of, name, args, line).fit(self.alloc, cursor, self.depth)
             }
         }
     }
@@ -220,7 +236,8 @@ impl<F: Fn(Global, &mut Cursor<'_>, u32, u8) -> Result<SizedExpr, ReadFault>> Re
     fn typed(&self, cursor: &mut Cursor<'_>) -> Result<SizedExpr, ReadFault>
         requires small { self.now.depth ≤ 200 }
         requires nests { Nests self.now.below (F.pre self.now.expr) (F.post self.now.expr) }
-        ensures { Gives (λ x. x.expr) result cursor.new (plan.typed (plan.levels self.now.below) self.now.depth cursor.old) }
+        ensures { Gives (λ x. x.expr) result cursor.new
+            (plan.typed (plan.levels self.now.below) self.now.depth cursor.old) }
     {
         let line = cursor.first_line();
         let of = shape(self.alloc, cursor, self.depth)?;
@@ -235,23 +252,26 @@ impl<F: Fn(Global, &mut Cursor<'_>, u32, u8) -> Result<SizedExpr, ReadFault>> Re
     fn literal_or_typed(&self, cursor: &mut Cursor<'_>) -> Result<SizedExpr, ReadFault>
         requires small { self.now.depth ≤ 200 }
         requires nests { Nests self.now.below (F.pre self.now.expr) (F.post self.now.expr) }
-        ensures { Gives (λ x. x.expr) result cursor.new (plan.literal_or (plan.levels self.now.below) self.now.depth (plan.literal_at cursor.old) cursor.old) }
+        ensures { Gives (λ x. x.expr) result cursor.new
+            (plan.literal_or (plan.levels self.now.below) self.now.depth (plan.literal_at cursor.old) cursor.old) }
     {
         if at_literal(cursor) {
             let line = cursor.first_line();
             let value = literal(self.alloc, cursor)?;
-            return node::literal(self.alloc, cursor, self.depth, value, line);
+            return node::literal(value, line).fit(self.alloc, cursor, self.depth);
         }
         self.typed(cursor)
     }
 
-    /// What begins with a name. A bracket behind it opens its arguments, unless it begins the target of the next statement.
+    /// What begins with a name. A bracket behind it opens its arguments, unless it begins the target of the next
+    /// statement.
     #[tactic(auto, unfolding(clu_grammar::specs::ExprPlan::atom))]
     fn named(&self, cursor: &mut Cursor<'_>, name: &Text, line: u32) -> Result<SizedExpr, ReadFault>
         requires small { self.now.depth ≤ 200 }
         requires at { cursor.old ≡ Lexeme.Name name.now line ∷ drop 1 cursor.old }
         requires nests { Nests self.now.below (F.pre self.now.expr) (F.post self.now.expr) }
-        ensures { Gives (λ x. x.expr) result cursor.new (plan.atom (plan.levels self.now.below) self.now.depth cursor.old) }
+        ensures { Gives (λ x. x.expr) result cursor.new
+            (plan.atom (plan.levels self.now.below) self.now.depth cursor.old) }
     {
         match cursor.second() {
             Some(Lexeme::Key(Key::Dollar, _)) => self.typed(cursor),
@@ -259,16 +279,16 @@ impl<F: Fn(Global, &mut Cursor<'_>, u32, u8) -> Result<SizedExpr, ReadFault>> Re
                 let name = name.copy(self.alloc)?;
                 if cursor.behind_two().is_target() {
                     cursor.skip();
-                    return node::name(self.alloc, cursor, self.depth, name, line);
+                    return node::name(name, line).fit(self.alloc, cursor, self.depth);
                 }
                 cursor.skip_two();
                 let args = self.args(cursor)?;
-                node::call(self.alloc, cursor, self.depth, name, args, line)
+                node::call(name, args, line).fit(self.alloc, cursor, self.depth)
             }
             _ => {
                 let name = name.copy(self.alloc)?;
                 cursor.skip();
-                node::name(self.alloc, cursor, self.depth, name, line)
+                node::name(name, line).fit(self.alloc, cursor, self.depth)
             }
         }
     }
@@ -279,12 +299,13 @@ impl<F: Fn(Global, &mut Cursor<'_>, u32, u8) -> Result<SizedExpr, ReadFault>> Re
         requires small { self.now.depth ≤ 200 }
         requires at { cursor.old ≡ Lexeme.Key Key.Up line ∷ drop 1 cursor.old }
         requires nests { Nests self.now.below (F.pre self.now.expr) (F.post self.now.expr) }
-        ensures { Gives (λ x. x.expr) result cursor.new (plan.atom (plan.levels self.now.below) self.now.depth cursor.old) }
+        ensures { Gives (λ x. x.expr) result cursor.new
+            (plan.atom (plan.levels self.now.below) self.now.depth cursor.old) }
     {
         if let Some(Lexeme::Key(Key::LParen, _)) = cursor.second() {
             cursor.skip_two();
             let of = self.grouped(cursor)?;
-            return node::up(self.alloc, cursor, self.depth, of, line);
+            return node::up(of, line).fit(self.alloc, cursor, self.depth);
         }
         cursor.skip();
         Err(ReadFault::Syntax(cursor.line()))
@@ -296,12 +317,13 @@ impl<F: Fn(Global, &mut Cursor<'_>, u32, u8) -> Result<SizedExpr, ReadFault>> Re
         requires small { self.now.depth ≤ 200 }
         requires at { cursor.old ≡ Lexeme.Key Key.Down line ∷ drop 1 cursor.old }
         requires nests { Nests self.now.below (F.pre self.now.expr) (F.post self.now.expr) }
-        ensures { Gives (λ x. x.expr) result cursor.new (plan.atom (plan.levels self.now.below) self.now.depth cursor.old) }
+        ensures { Gives (λ x. x.expr) result cursor.new
+            (plan.atom (plan.levels self.now.below) self.now.depth cursor.old) }
     {
         if let Some(Lexeme::Key(Key::LParen, _)) = cursor.second() {
             cursor.skip_two();
             let of = self.grouped(cursor)?;
-            return node::down(self.alloc, cursor, self.depth, of, line);
+            return node::down(of, line).fit(self.alloc, cursor, self.depth);
         }
         cursor.skip();
         Err(ReadFault::Syntax(cursor.line()))
@@ -313,13 +335,14 @@ impl<F: Fn(Global, &mut Cursor<'_>, u32, u8) -> Result<SizedExpr, ReadFault>> Re
         requires small { self.now.depth ≤ 200 }
         requires at { cursor.old ≡ Lexeme.Key Key.Now line ∷ drop 1 cursor.old }
         requires nests { Nests self.now.below (F.pre self.now.expr) (F.post self.now.expr) }
-        ensures { Gives (λ x. x.expr) result cursor.new (plan.atom (plan.levels self.now.below) self.now.depth cursor.old) }
+        ensures { Gives (λ x. x.expr) result cursor.new
+            (plan.atom (plan.levels self.now.below) self.now.depth cursor.old) }
     {
         if let Some(Lexeme::Key(Key::LParen, _)) = cursor.second() {
             cursor.skip_two();
             if let Some(Lexeme::Key(Key::RParen, _)) = cursor.peek() {
                 cursor.skip();
-                return node::now(self.alloc, cursor, self.depth, line);
+                return node::now(line).fit(self.alloc, cursor, self.depth);
             }
             return Err(ReadFault::Syntax(cursor.line()));
         }
@@ -332,7 +355,8 @@ impl<F: Fn(Global, &mut Cursor<'_>, u32, u8) -> Result<SizedExpr, ReadFault>> Re
     pub fn atom(&self, cursor: &mut Cursor<'_>) -> Result<SizedExpr, ReadFault>
         requires small { self.now.depth ≤ 200 }
         requires nests { Nests self.now.below (F.pre self.now.expr) (F.post self.now.expr) }
-        ensures { Gives (λ x. x.expr) result cursor.new (plan.atom (plan.levels self.now.below) self.now.depth cursor.old) }
+        ensures { Gives (λ x. x.expr) result cursor.new
+            (plan.atom (plan.levels self.now.below) self.now.depth cursor.old) }
     {
         match cursor.peek() {
             Some(Lexeme::Name(name, line)) => self.named(cursor, name, *line),
@@ -357,7 +381,7 @@ impl<F: Fn(Global, &mut Cursor<'_>, u32, u8) -> Result<SizedExpr, ReadFault>> Re
             Some(Lexeme::Name(name, _)) => {
                 cursor.skip();
                 let name = name.copy(self.alloc)?;
-                node::field(self.alloc, cursor, self.depth, of, name, line)
+                node::field(of, name, line).fit(self.alloc, cursor, self.depth)
             }
             _ => Err(ReadFault::Syntax(cursor.line())),
         }
@@ -373,7 +397,9 @@ impl<F: Fn(Global, &mut Cursor<'_>, u32, u8) -> Result<SizedExpr, ReadFault>> Re
     ) -> Result<SizedExpr, ReadFault>
         requires small { self.now.depth ≤ 200 }
         requires nests { Nests self.now.below (F.pre self.now.expr) (F.post self.now.expr) }
-        ensures { Gives (λ x. x.expr) result cursor.new (plan.postfix (plan.levels self.now.below) self.now.depth (suc self.now.depth) line first.expr cursor.old) }
+        ensures { Gives (λ x. x.expr) result cursor.new
+            (plan.postfix (plan.levels self.now.below) self.now.depth (suc self.now.depth) line first.expr
+            cursor.old) }
     {
         let mut of = first;
         for _turn in 0..self.depth + 1 {
@@ -385,7 +411,7 @@ impl<F: Fn(Global, &mut Cursor<'_>, u32, u8) -> Result<SizedExpr, ReadFault>> Re
                 Some(Lexeme::Key(Key::LBracket, _)) => {
                     cursor.skip();
                     let at = self.indexed(cursor)?;
-                    of = node::index(self.alloc, cursor, self.depth, of, at, line)?;
+                    of = node::index(of, at, line).fit(self.alloc, cursor, self.depth)?;
                 }
                 _ => return Ok(of),
             }
@@ -405,7 +431,8 @@ impl<F: Fn(Global, &mut Cursor<'_>, u32, u8) -> Result<SizedExpr, ReadFault>> Re
         requires small { self.now.depth ≤ 200 }
         requires few { looseness < 5 }
         requires nests { Nests self.now.below (F.pre self.now.expr) (F.post self.now.expr) }
-        ensures { Gives (λ x. x.expr) result cursor.new (plan.join (plan.levels self.now.below) self.now.depth looseness line key left.expr cursor.old) }
+        ensures { Gives (λ x. x.expr) result cursor.new
+            (plan.join (plan.levels self.now.below) self.now.depth looseness line key left.expr cursor.old) }
     {
         let right = self.below(cursor, looseness)?;
         node::join(self.alloc, cursor, self.depth, key, left, right, line)
@@ -422,7 +449,9 @@ impl<F: Fn(Global, &mut Cursor<'_>, u32, u8) -> Result<SizedExpr, ReadFault>> Re
         requires small { self.now.depth ≤ 200 }
         requires few { looseness < 5 }
         requires nests { Nests self.now.below (F.pre self.now.expr) (F.post self.now.expr) }
-        ensures { Gives (λ x. x.expr) result cursor.new (plan.joins (plan.levels self.now.below) self.now.depth (suc self.now.depth) looseness line first.expr cursor.old) }
+        ensures { Gives (λ x. x.expr) result cursor.new
+            (plan.joins (plan.levels self.now.below) self.now.depth (suc self.now.depth) looseness line first.expr
+            cursor.old) }
     {
         let mut left = first;
         for _turn in 0..self.depth + 1 {
@@ -452,7 +481,8 @@ impl<F: Fn(Global, &mut Cursor<'_>, u32, u8) -> Result<SizedExpr, ReadFault>> Re
         requires small { self.now.depth ≤ 200 }
         requires few { looseness ≤ 5 }
         requires nests { Nests self.now.below (F.pre self.now.expr) (F.post self.now.expr) }
-        ensures { Gives (λ x. x.expr) result cursor.new (plan.binaries (plan.levels self.now.below) self.now.depth looseness line first.expr cursor.old) }
+        ensures { Gives (λ x. x.expr) result cursor.new
+            (plan.binaries (plan.levels self.now.below) self.now.depth looseness line first.expr cursor.old) }
     {
         let mut left = first;
         for tighter in 0..looseness {
@@ -472,7 +502,8 @@ impl<F: Fn(Global, &mut Cursor<'_>, u32, u8) -> Result<SizedExpr, ReadFault>> Re
         requires small { self.now.depth ≤ 200 }
         requires few { looseness ≤ 5 }
         requires nests { Nests self.now.below (F.pre self.now.expr) (F.post self.now.expr) }
-        ensures { Gives (λ x. x.expr) result cursor.new (plan.onward (plan.levels self.now.below) self.now.depth looseness line first.expr cursor.old) }
+        ensures { Gives (λ x. x.expr) result cursor.new
+            (plan.onward (plan.levels self.now.below) self.now.depth looseness line first.expr cursor.old) }
     {
         let left = self.postfix(cursor, line, first)?;
         self.binaries(cursor, looseness, line, left)
@@ -483,12 +514,13 @@ impl<F: Fn(Global, &mut Cursor<'_>, u32, u8) -> Result<SizedExpr, ReadFault>> Re
     fn operand(&self, cursor: &mut Cursor<'_>) -> Result<SizedExpr, ReadFault>
         requires small { self.now.depth ≤ 200 }
         requires nests { Nests self.now.below (F.pre self.now.expr) (F.post self.now.expr) }
-        ensures { Gives (λ x. x.expr) result cursor.new (plan.operand (plan.levels self.now.below) self.now.depth cursor.old) }
+        ensures { Gives (λ x. x.expr) result cursor.new
+            (plan.operand (plan.levels self.now.below) self.now.depth cursor.old) }
     {
         if let Some((op, line)) = cursor.sign() {
             cursor.skip();
             let of = self.below(cursor, 0)?;
-            return node::unary(self.alloc, cursor, self.depth, op, of, line);
+            return node::unary(op, of, line).fit(self.alloc, cursor, self.depth);
         }
         let line = cursor.first_line();
         let first = self.atom(cursor)?;
@@ -500,18 +532,21 @@ impl<F: Fn(Global, &mut Cursor<'_>, u32, u8) -> Result<SizedExpr, ReadFault>> Re
         requires small { self.now.depth ≤ 200 }
         requires few { looseness ≤ 5 }
         requires nests { Nests self.now.below (F.pre self.now.expr) (F.post self.now.expr) }
-        ensures { Gives (λ x. x.expr) result cursor.new (plan.plain (plan.levels self.now.below) self.now.depth looseness cursor.old) }
+        ensures { Gives (λ x. x.expr) result cursor.new
+            (plan.plain (plan.levels self.now.below) self.now.depth looseness cursor.old) }
     {
         let line = cursor.first_line();
         let first = self.operand(cursor)?;
         self.binaries(cursor, looseness, line, first)
     }
 
-    /// What stands inside a bracket that was opened. It takes a turn for each bracket at the front, since those may be many.
+    /// What stands inside a bracket that was opened. It takes a turn for each bracket at the front, since those may be
+    /// many.
     fn inside(&self, cursor: &mut Cursor<'_>) -> Result<SizedExpr, ReadFault>
         requires small { self.now.depth ≤ 200 }
         requires nests { Nests self.now.below (F.pre self.now.expr) (F.post self.now.expr) }
-        ensures { Gives (λ x. x.expr) result cursor.new (plan.inside (plan.levels self.now.below) self.now.depth [] cursor.old) }
+        ensures { Gives (λ x. x.expr) result cursor.new
+            (plan.inside (plan.levels self.now.below) self.now.depth [] cursor.old) }
     {
         let mut lines = open_brackets(self.alloc, cursor)?;
         let mut found = self.plain(cursor, 5)?;
@@ -526,7 +561,8 @@ impl<F: Fn(Global, &mut Cursor<'_>, u32, u8) -> Result<SizedExpr, ReadFault>> Re
     pub fn group(&self, cursor: &mut Cursor<'_>) -> Result<SizedExpr, ReadFault>
         requires small { self.now.depth ≤ 200 }
         requires nests { Nests self.now.below (F.pre self.now.expr) (F.post self.now.expr) }
-        ensures { Gives (λ x. x.expr) result cursor.new (plan.group (plan.levels self.now.below) self.now.depth cursor.old) }
+        ensures { Gives (λ x. x.expr) result cursor.new
+            (plan.group (plan.levels self.now.below) self.now.depth cursor.old) }
     {
         let found = self.inside(cursor)?;
         closed(cursor, found)
@@ -538,7 +574,8 @@ impl<F: Fn(Global, &mut Cursor<'_>, u32, u8) -> Result<SizedExpr, ReadFault>> Re
         requires small { self.now.depth ≤ 200 }
         requires few { looseness ≤ 5 }
         requires nests { Nests self.now.below (F.pre self.now.expr) (F.post self.now.expr) }
-        ensures { Gives (λ x. x.expr) result cursor.new (plan.level (plan.levels self.now.below) self.now.depth looseness cursor.old) }
+        ensures { Gives (λ x. x.expr) result cursor.new
+            (plan.level (plan.levels self.now.below) self.now.depth looseness cursor.old) }
     {
         match cursor.peek() {
             Some(Lexeme::Key(Key::LParen, line)) => {

@@ -189,7 +189,8 @@ fn fields_rest(alloc: Global, cursor: &mut Cursor<'_>, depth: u32) -> Result<Siz
 #[tactic(auto, using(crate::proofs::ShapeSteps::field_steps))]
 pub fn fields(alloc: Global, cursor: &mut Cursor<'_>, depth: u32) -> Result<SizedFields, ReadFault>
     requires { depth ≤ 200 }
-    ensures gives { Gives (λ x. x.fields) result cursor.new (plan.fields (plan.shape depth) (length cursor.old) cursor.old) }
+    ensures gives { Gives (λ x. x.fields) result cursor.new
+        (plan.fields (plan.shape depth) (length cursor.old) cursor.old) }
     ensures deep { IfOk result (λ x. x.height ≤ depth) }
 {
     let mut found = SizedFields::new(alloc);

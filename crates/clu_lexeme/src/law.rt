@@ -7,5 +7,7 @@ ghost use Rattle.clu_lexeme.specs.Lexemes.{AreLexemes};
 
 /// The tokens of a text are one list of lexemes at most.
 pub fn no_tokens_are_two_lists()
-    ensures { (text : List ℕ) (tokens : List Token) (xs ys : List Lexeme) → AreLexemes text tokens xs → AreLexemes text tokens ys → xs ≡ ys }
+    ensures { (text : List ℕ) (tokens : List Token) (xs ys : List Lexeme) → AreLexemes text tokens xs →
+        AreLexemes text tokens ys →
+        xs ≡ ys }
 {}

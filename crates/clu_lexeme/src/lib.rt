@@ -1,4 +1,5 @@
-//! The tokens of a program as its grammar sees them: names, literals with what they stand for, reserved words and symbols.
+//! The tokens of a program as its grammar sees them: names, literals with what they stand for, reserved words and
+//! symbols.
 #![tactic(auto)]
 
 mod content;

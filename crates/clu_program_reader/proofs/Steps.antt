@@ -12,8 +12,9 @@ use Rattle.clu_tree.specs.declared.program.NodePart.{NodePart}
 use Rattle.clu_tree.specs.declared.program.NodePart.TheVariants as np
 use Rattle.clu_tree.specs.declared.program.Routine.{Routine}
 use Rattle.clu_grammar.specs.Grammar.{Tokens, Part, AnEquate, ANodeVar, ARoutine, ANode}
+use Rattle.clu_grammar.specs.Ahead.{becomes}
 use Rattle.clu_grammar.specs.ExprPlan.{Found, Parser, ◌>>=◌, closed, bracketed, shape, fields, literal_at}
-use Rattle.clu_grammar.specs.StmtPlan.{end_key}
+use Rattle.clu_grammar.specs.StmtPlan.{end_key, opens}
 use Rattle.clu_grammar.specs.ProgramPlan as plan
 use Rattle.clu_stmt_reader.specs.Loops.{many, listed, after_comma}
 use Rattle.clu_program_reader.specs.Parts as parts
@@ -69,13 +70,13 @@ unfolding parts.params parts.at_close
 params-some (lexeme.Key key.RParen k ∷ r) h = absurd cc
 params-some _ h = refl
 
-pub carried-some : (ts : Tokens) → parts.at_open ts ≡ true → parts.carried ts ≡ (parts.closed_shape (drop 1 ts) >>= λ t r. Some (Some t, r))
-unfolding parts.carried parts.at_open parts.closed_shape
+pub carried-some : (ts : Tokens) → opens ts ≡ true → parts.carried ts ≡ (parts.closed_shape (drop 1 ts) >>= λ t r. Some (Some t, r))
+unfolding parts.carried parts.closed_shape
 carried-some (lexeme.Key key.LParen k ∷ r) h = refl
 carried-some _ h = absurd cc
 
-pub carried-none : (ts : Tokens) → parts.at_open ts ≡ false → parts.carried ts ≡ Some (None, ts)
-unfolding parts.carried parts.at_open
+pub carried-none : (ts : Tokens) → opens ts ≡ false → parts.carried ts ≡ Some (None, ts)
+unfolding parts.carried
 carried-none (lexeme.Key key.LParen k ∷ r) h = absurd cc
 carried-none _ h = refl
 
@@ -232,13 +233,13 @@ initial-literal (lexeme.Key key.Semaphore k ∷ m) h = absurd cc
 initial-literal (lexeme.Key key.Array k ∷ m) h = absurd cc
 initial-literal _ h = refl
 
-pub first_value-none : (ts : Tokens) → parts.at_becomes ts ≡ false → parts.first_value ts ≡ Some (None, ts)
-unfolding parts.first_value parts.at_becomes
+pub first_value-none : (ts : Tokens) → becomes ts ≡ false → parts.first_value ts ≡ Some (None, ts)
+unfolding parts.first_value
 first_value-none (lexeme.Key key.Becomes k ∷ m) h = absurd cc
 first_value-none _ h = refl
 
-pub first_value-some : (ts : Tokens) → parts.at_becomes ts ≡ true → parts.first_value ts ≡ (parts.initial (drop 1 ts) >>= λ y r. Some (Some y, r))
-unfolding parts.first_value parts.at_becomes
+pub first_value-some : (ts : Tokens) → becomes ts ≡ true → parts.first_value ts ≡ (parts.initial (drop 1 ts) >>= λ y r. Some (Some y, r))
+unfolding parts.first_value
 first_value-some (lexeme.Key key.Becomes k ∷ m) h = refl
 first_value-some _ h = absurd cc
 

@@ -44,10 +44,6 @@ unfoldable pub at_close : Tokens → Bool
 at_close (lexeme.Key key.RParen _ ∷ _) = true
 at_close _ = false
 
-unfoldable pub at_open : Tokens → Bool
-at_open (lexeme.Key key.LParen _ ∷ _) = true
-at_open _ = false
-
 -- ---- routines
 
 -- a type, and the closing bracket
@@ -138,10 +134,6 @@ all_node_parts = many at_node_part node_part
 unfoldable pub maker : List ℕ → Parser Unit
 maker x (lexeme.Key key.Dollar _ ∷ lexeme.Name y _ ∷ lexeme.Key key.LParen _ ∷ r) = if bytes_eq y x then Some (tt, r) else None
 maker x _ = None
-
-unfoldable pub at_becomes : Tokens → Bool
-at_becomes (lexeme.Key key.Becomes _ ∷ _) = true
-at_becomes _ = false
 
 unfoldable pub initial_kind : Tokens → InitialKind
 initial_kind (lexeme.Key key.Lock _ ∷ _) = initial_of.Lock

@@ -5,9 +5,8 @@ ghost use Rattle.clu_expr_reader.specs.Gives.{Gives};
 ghost use Rattle.clu_program_reader.specs.Parts as parts;
 ghost use Rattle.clu_program_reader.specs.Views.{cluster_part};
 
-use crate::pass::pass;
 use crate::routine::{any_shape, own_name, routines};
-use clu_expr_reader::{Cursor, ReadFault};
+use clu_expr_reader::{Cursor, ReadFault, pass};
 use clu_stmt_reader::names;
 use clu_tree::{Key, Lexeme, Routine, Shape, Text};
 use sqlite_items::Items;

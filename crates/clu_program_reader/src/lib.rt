@@ -6,7 +6,6 @@ mod literals;
 mod node_block;
 mod node_var;
 mod part;
-mod pass;
 mod program;
 mod routine;
 

@@ -3,21 +3,12 @@
 ghost use Rattle.std.specs.Prelude.{◌≡◌, length};
 ghost use Rattle.clu_grammar.specs.ProgramPlan as plan;
 ghost use Rattle.clu_expr_reader.specs.Gives.{Gives};
-ghost use Rattle.clu_stmt_reader.specs.Loops as loops;
 ghost use Rattle.clu_program_reader.specs.Parts as parts;
 
-use crate::pass::pass;
-use clu_expr_reader::{Cursor, ReadFault, literal};
+use clu_expr_reader::{Cursor, ReadFault, literal, pass};
 use clu_tree::{Key, Lexeme, Value};
 use sqlite_items::Items;
 use std::alloc::Global;
-
-/// Whether a comma comes next.
-pub fn at_comma(cursor: &Cursor<'_>) -> bool
-    ensures { result ≡ loops.at_comma cursor.now }
-{
-    matches!(cursor.peek(), Some(Lexeme::Key(Key::Comma, _)))
-}
 
 /// Whether a minus sign comes next.
 #[tactic(auto, unfolding(crate::specs::Parts::at_minus))]
@@ -61,7 +52,7 @@ fn value_list(alloc: Global, cursor: &mut Cursor<'_>) -> Result<Items<Value>, Re
     for _turn in 0..cursor.left() {
         let next = signed(alloc, cursor)?;
         found.push(next)?;
-        if !at_comma(cursor) {
+        if !cursor.at_comma() {
             return Ok(found);
         }
         cursor.skip();

@@ -6,8 +6,7 @@ ghost use Rattle.clu_expr_reader.specs.Gives.{Gives};
 ghost use Rattle.clu_program_reader.specs.Parts as parts;
 
 use crate::literals::values;
-use crate::pass::pass;
-use clu_expr_reader::{Cursor, ReadFault};
+use clu_expr_reader::{Cursor, ReadFault, pass};
 use clu_tree::{Key, Lexeme, NodePart};
 use sqlite_items::Items;
 use std::alloc::Global;

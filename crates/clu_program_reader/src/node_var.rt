@@ -5,9 +5,8 @@ ghost use Rattle.clu_expr_reader.specs.Gives.{Gives};
 ghost use Rattle.clu_program_reader.specs.Parts as parts;
 
 use crate::literals::signed;
-use crate::pass::pass;
 use crate::routine::any_shape;
-use clu_expr_reader::{Cursor, ReadFault};
+use clu_expr_reader::{Cursor, ReadFault, pass};
 use clu_tree::{Initial, Key, Lexeme, NodeVar, Shape, Text};
 use std::alloc::Global;
 
@@ -106,20 +105,12 @@ fn initial(alloc: Global, cursor: &mut Cursor<'_>) -> Result<Initial, ReadFault>
     }
 }
 
-/// Whether `:=` comes next.
-#[tactic(auto, unfolding(crate::specs::Parts::at_becomes))]
-fn at_becomes(cursor: &Cursor<'_>) -> bool
-    ensures { result ≡ parts.at_becomes cursor.now }
-{
-    matches!(cursor.peek(), Some(Lexeme::Key(Key::Becomes, _)))
-}
-
 /// Reads the initial value of a node variable, if it has one.
 #[tactic(auto, using(crate::proofs::Steps::initials))]
 fn first_value(alloc: Global, cursor: &mut Cursor<'_>) -> Result<Option<Initial>, ReadFault>
     ensures { Gives (λ x. x) result cursor.new (parts.first_value cursor.old) }
 {
-    if !at_becomes(cursor) {
+    if !cursor.becomes() {
         return Ok(None);
     }
     cursor.skip();

@@ -9,9 +9,8 @@ ghost use Rattle.clu_program_reader.specs.Views.{part_view};
 use crate::cluster::{ClusterPart, cluster_of};
 use crate::node_block::node_parts;
 use crate::node_var::node_var_of;
-use crate::pass::pass;
 use crate::routine::{any_shape, routine_of};
-use clu_expr_reader::{Cursor, ReadFault};
+use clu_expr_reader::{Cursor, ReadFault, pass};
 use clu_tree::{Equate, Key, Lexeme, NodeDecl, NodeVar, Routine, Text};
 use std::alloc::Global;
 

@@ -80,12 +80,15 @@ fn all_parts(alloc: Global, cursor: &mut Cursor<'_>) -> Result<Program, ReadFaul
     Err(ReadFault::Syntax(cursor.line()))
 }
 
-/// Reads the tokens, which are at most 1,048,576, as a program. `Syntax` comes exactly where they are none, or nest statements, expressions
-/// and types more than 200 deep; it carries the line of the token where reading failed, and `last_line` where they end too early.
+/// Reads the tokens, which are at most 1,048,576, as a program. `Syntax` comes exactly where they are none, or nest
+/// statements, expressions and types more than 200 deep; it carries the line of the token where reading failed, and
+/// `last_line` where they end too early.
 pub fn read_tokens(alloc: Global, tokens: &[Lexeme], last_line: u32) -> Result<Program, ReadFault>
     requires { length tokens.now ≤ 1048576 }
     ensures ok { IfOk result (λ p. ReadsProgram tokens.now p × (program_nesting p ≤ 200)) }
-    ensures syntax { (line : ℕ) → result ≡ Err (ReadFault.Syntax line) → (p : Program) → ReadsProgram tokens.now p → program_nesting p ≤ 200 → ⊥ }
+    ensures syntax { (line : ℕ) → result ≡ Err (ReadFault.Syntax line) → (p : Program) → ReadsProgram tokens.now p →
+        program_nesting p ≤ 200 →
+        ⊥ }
 {
     let mut cursor = Cursor::new(tokens, last_line);
     all_parts(alloc, &mut cursor)

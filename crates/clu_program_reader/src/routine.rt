@@ -9,9 +9,8 @@ ghost use Rattle.clu_expr_reader.specs.Faults.{OnSyntax};
 ghost use Rattle.clu_expr_reader.specs.Gives.{Gives};
 ghost use Rattle.clu_program_reader.specs.Parts as parts;
 
-use crate::literals::{at_close, at_comma};
-use crate::pass::pass;
-use clu_expr_reader::{Cursor, ReadFault, fields, shape};
+use crate::literals::at_close;
+use clu_expr_reader::{Cursor, ReadFault, fields, pass, shape};
 use clu_stmt_reader::body;
 use clu_tree::{Key, Lexeme, Listed, Named, Routine, Shape, Text};
 use sqlite_items::Items;
@@ -38,20 +37,12 @@ fn closed_shape(alloc: Global, cursor: &mut Cursor<'_>) -> Result<Shape, ReadFau
     Ok(found)
 }
 
-/// Whether an opening bracket comes next.
-#[tactic(auto, unfolding(crate::specs::Parts::at_open))]
-fn at_open(cursor: &Cursor<'_>) -> bool
-    ensures { result ≡ parts.at_open cursor.now }
-{
-    matches!(cursor.peek(), Some(Lexeme::Key(Key::LParen, _)))
-}
-
 /// Reads the type of an exception's value, if one is written.
 #[tactic(auto, using(crate::proofs::Steps::brackets))]
 fn carried(alloc: Global, cursor: &mut Cursor<'_>) -> Result<Option<Shape>, ReadFault>
     ensures { Gives (λ x. x) result cursor.new (parts.carried cursor.old) }
 {
-    if !at_open(cursor) {
+    if !cursor.opens() {
         return Ok(None);
     }
     cursor.skip();
@@ -77,7 +68,7 @@ fn listed(alloc: Global, cursor: &mut Cursor<'_>) -> Result<Items<Listed>, ReadF
     for _turn in 0..cursor.left() {
         let next = one_listed(alloc, cursor)?;
         found.push(next)?;
-        if !at_comma(cursor) {
+        if !cursor.at_comma() {
             return Ok(found);
         }
         cursor.skip();

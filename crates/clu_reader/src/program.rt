@@ -21,9 +21,9 @@ fn last_line(text: &[u8]) -> u32
     1 + before.iter().filter(|b| **b == b'\n').count() as u32
 }
 
-/// The program that the text is, by its tokens, which are those that `tokens` of `clu_text` answers. `Syntax` comes exactly where the
-/// text is no program, or nests statements, expressions and types more than 200 deep; it carries the line of the token where
-/// reading failed, counted from 1.
+/// The program that the text is, by its tokens, which are those that `tokens` of `clu_text` answers. `Syntax` comes
+/// exactly where the text is no program, or nests statements, expressions and types more than 200 deep; it carries the
+/// line of the token where reading failed, counted from 1.
 pub fn read_program(alloc: Global, text: &[u8], tokens: &[Token]) -> Result<Program, ReadFault>
     requires short { length text.now ≤ 1048576 }
     requires scanned { HasTokens text.now tokens.now }

@@ -191,8 +191,8 @@ fn check_nodes(program: &Program) -> Option<u32>
     }
 }
 
-/// Checks that a program is typed. A fault has the first line that breaks a rule or that can't run yet, counted from 1; where there is
-/// no node block, it is line 1. Takes no memory.
+/// Checks that a program is typed. A fault has the first line that breaks a rule or that can't run yet, counted from 1;
+/// where there is no node block, it is line 1. Takes no memory.
 pub fn check(program: &Program) -> Result<(), CheckFault>
     ensures ok { OnOk result (CanRun program.now) }
     ensures not_typed { OnErr result (CanRun program.now → ⊥) }

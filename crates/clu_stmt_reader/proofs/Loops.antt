@@ -6,7 +6,8 @@ use Rattle.clu_tree.specs.declared.lexeme.Key.TheVariants as key
 use Rattle.clu_tree.specs.declared.lexeme.Lexeme.TheVariants as lexeme
 use Rattle.clu_grammar.specs.Grammar.{Tokens}
 use Rattle.clu_grammar.specs.ExprPlan.{Found, Parser, ◌>>=◌}
-use Rattle.clu_stmt_reader.specs.Loops.{many, listed, after_comma, at_comma, goes, behind}
+use Rattle.clu_expr_reader.specs.Keys.{at_comma}
+use Rattle.clu_stmt_reader.specs.Loops.{many, listed, after_comma, goes, behind}
 
 pub one_turn : {X : Type 0} (f : ℕ → X) (n at : ℕ) → at < n → f (n - at) ≡ f (suc (n - (at + 1)))
 one_turn f n at below = let turn : n - at ≡ suc (n - (at + 1)) = omega arith in ap f turn

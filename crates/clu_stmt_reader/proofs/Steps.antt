@@ -15,7 +15,7 @@ use Rattle.clu_tree.specs.declared.tree.TagArm.{roll-TagArm}
 use Rattle.clu_tree.specs.declared.tree.When.{When, roll-When}
 use Rattle.clu_tree.specs.declared.tree.Handlers.{roll-Handlers}
 use Rattle.clu_grammar.specs.Grammar.{Tokens, line_of}
-use Rattle.clu_grammar.specs.Ahead.{is_target}
+use Rattle.clu_grammar.specs.Ahead.{becomes, is_target}
 use Rattle.clu_grammar.specs.ExprPlan.{Found, Parser, ◌>>=◌, levels}
 use Rattle.clu_grammar.specs.ExprPlan as exprs
 use Rattle.clu_grammar.specs.StmtPlan as plan
@@ -23,7 +23,7 @@ use Rattle.clu_grammar.proofs.Nests.{nests-Handlers}
 use Rattle.clu_stmt_reader.specs.Kinds.{kind_of, by_kind}
 use Rattle.clu_stmt_reader.specs.Loops.{many, listed, goes}
 use Rattle.clu_stmt_reader.specs.Parts.{goes_on}
-use Rattle.clu_stmt_reader.specs.Parts.{inner, opens, at_call, called, at_place, further, at_variable, bound, carries, enclosed, at_operation, at_else, at_others, at_becomes, at_once, at_arm, at_tag, at_when, at_suffix, is_call, ended, given, given_at, closing, bracketed_value, condition, variable_colon, new_value}
+use Rattle.clu_stmt_reader.specs.Parts.{inner, at_call, called, at_place, further, at_variable, bound, carries, enclosed, at_operation, at_else, at_others, at_once, at_arm, at_tag, at_when, at_suffix, is_call, ended, given, given_at, closing, bracketed_value, condition, variable_colon, new_value}
 use Rattle.clu_stmt_reader.specs.Parts as parts
 
 bind_same : {A B : Type 0} {f g : A → Parser B} → ((x : A) (r : Tokens) → f x r ≡ g x r) → (o : Found A) → (o >>= f) ≡ (o >>= g)
@@ -35,13 +35,13 @@ unfolding parts.front at_call called given
 front-call d (lexeme.Name x l ∷ lexeme.Key key.LParen k ∷ m) h = refl
 front-call d _ h = absurd cc
 
-pub front-group : (d : ℕ) (ts : Tokens) → opens ts ≡ true → parts.front d ts ≡ exprs.group (levels d) d (drop 1 ts)
-unfolding parts.front opens
+pub front-group : (d : ℕ) (ts : Tokens) → plan.opens ts ≡ true → parts.front d ts ≡ exprs.group (levels d) d (drop 1 ts)
+unfolding parts.front
 front-group d (lexeme.Key key.LParen k ∷ m) h = refl
 front-group d _ h = absurd cc
 
-pub front-atom : (d : ℕ) (ts : Tokens) → at_call ts ≡ false → opens ts ≡ false → parts.front d ts ≡ exprs.atom (levels d) d ts
-unfolding parts.front at_call opens
+pub front-atom : (d : ℕ) (ts : Tokens) → at_call ts ≡ false → plan.opens ts ≡ false → parts.front d ts ≡ exprs.atom (levels d) d ts
+unfolding parts.front at_call
 front-atom d (lexeme.Name x l ∷ lexeme.Key key.LParen k ∷ m) h o = absurd cc
 front-atom d (lexeme.Key key.LParen k ∷ m) h o = absurd cc
 front-atom d _ h o = refl
@@ -159,14 +159,14 @@ pub ruleset remotes = (remote-once, remote-maybe)
 
 -- ---- the initial value of a variable
 
-pub declared-some : (d : ℕ) (x : List ℕ) (l : ℕ) (t : Shape) (ts : Tokens) → at_becomes ts ≡ true →
+pub declared-some : (d : ℕ) (x : List ℕ) (l : ℕ) (t : Shape) (ts : Tokens) → becomes ts ≡ true →
     parts.declared d x l t ts ≡ (new_value d ts >>= λ a. plan.stmt_within d (st.Declare x t (Some a) l))
-unfolding parts.declared at_becomes new_value
+unfolding parts.declared new_value
 declared-some d x l t (lexeme.Key key.Becomes k ∷ m) h = refl
 declared-some d x l t _ h = absurd cc
 
-pub declared-none : (d : ℕ) (x : List ℕ) (l : ℕ) (t : Shape) (ts : Tokens) → at_becomes ts ≡ false → parts.declared d x l t ts ≡ plan.stmt_within d (st.Declare x t None l) ts
-unfolding parts.declared at_becomes
+pub declared-none : (d : ℕ) (x : List ℕ) (l : ℕ) (t : Shape) (ts : Tokens) → becomes ts ≡ false → parts.declared d x l t ts ≡ plan.stmt_within d (st.Declare x t None l) ts
+unfolding parts.declared
 declared-none d x l t (lexeme.Key key.Becomes k ∷ m) h = absurd cc
 declared-none d x l t _ h = refl
 
@@ -245,7 +245,7 @@ returned false (Some z) ts f = refl
 returned false None ts f = refl
 
 pub simple-by : (d : ℕ) (ts : Tokens) → plan.simple (inner d) d ts ≡ by_kind d (kind_of ts) ts
-unfolding plan.simple kind_of by_kind parts.declaration parts.declared parts.assignment parts.assigned parts.begins_remote parts.remote_call parts.remote parts.put_line parts.sleep bracketed_value closing parts.fork given parts.leave parts.signal parts.carried parts.choice parts.choice_of condition parts.otherwise parts.repeat parts.head ended parts.each parts.shape_in parts.each_over parts.over parts.iter parts.tagcase parts.others parts.begin parts.region parts.from_front parts.front parts.front_stmt opens
+unfolding plan.simple kind_of by_kind parts.declaration parts.declared parts.assignment parts.assigned parts.begins_remote parts.remote_call parts.remote parts.put_line parts.sleep bracketed_value closing parts.fork given parts.leave parts.signal parts.carried parts.choice parts.choice_of condition parts.otherwise parts.repeat parts.head ended parts.each parts.shape_in parts.each_over parts.over parts.iter parts.tagcase parts.others parts.begin parts.region parts.from_front parts.front parts.front_stmt
 simple-by d (lexeme.Name x l ∷ lexeme.Key key.Colon k ∷ m) = refl
 simple-by d (lexeme.Name x l ∷ lexeme.Key key.Becomes k ∷ m) = refl
 simple-by d (lexeme.Key key.PutLine l ∷ lexeme.Key key.LParen k ∷ m) = refl

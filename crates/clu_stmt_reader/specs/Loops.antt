@@ -10,11 +10,6 @@ unfoldable pub many : {A : Type 0} → (Tokens → Bool) → Parser A → ℕ �
 many more one zero ts = None
 many more one (suc n) ts = if more ts then (one ts >>= λ x q. many more one n q >>= λ xs r. Some (x ∷ xs, r)) else Some ([], ts)
 
--- a comma comes next
-abbrev pub at_comma : Tokens → Bool
-at_comma (lexeme.Key key.Comma _ ∷ _) = true
-at_comma _ = false
-
 abbrev pub after_comma : {A : Type 0} → Parser (List A) → A → Parser (List A)
 after_comma others x (lexeme.Key key.Comma _ ∷ m) = others m >>= λ xs r. Some (x ∷ xs, r)
 after_comma others x m = Some (x ∷ [], m)

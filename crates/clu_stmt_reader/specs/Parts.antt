@@ -175,10 +175,6 @@ remote d = plan.remote (inner d) d
 
 -- ---- statements alone
 
-unfoldable pub at_becomes : Tokens → Bool
-at_becomes (lexeme.Key key.Becomes _ ∷ _) = true
-at_becomes _ = false
-
 -- behind a name, `:` and a type
 unfoldable pub declared : ℕ → List ℕ → ℕ → Shape → Parser Stmt
 declared d = plan.declared (inner d) d
@@ -356,14 +352,11 @@ is_call a = plan.is_call (out-Expr a)
 unfoldable pub assigned_to : ℕ → ℕ → Target → Parser Stmt
 assigned_to d line x ts = new_value d ts >>= λ b. stmt_within d (st.Assign x b line)
 
-unfoldable pub opens : Tokens → Bool
-opens ts = plan.opens ts
-
 unfoldable pub front_stmt : ℕ → Bool → ℕ → Place → Parser Stmt
 front_stmt d = plan.front_stmt (inner d) d
 
 unfoldable pub from_front : ℕ → Parser Stmt
-from_front d ts = front d ts >>= λ a m. plan.places (inner d) d (suc d) (line_of ts) (plan.Whole a) m >>= front_stmt d (opens ts) (line_of ts)
+from_front d ts = front d ts >>= λ a m. plan.places (inner d) d (suc d) (line_of ts) (plan.Whole a) m >>= front_stmt d (plan.opens ts) (line_of ts)
 
 -- ---- what is written behind a statement
 

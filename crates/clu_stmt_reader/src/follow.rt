@@ -4,22 +4,15 @@ ghost use Rattle.std.specs.Prelude.{◌≡◌, ◌≤◌, length, drop};
 ghost use Rattle.clu_grammar.specs.Grammar.{field_of, line_of};
 ghost use Rattle.clu_grammar.specs.StmtPlan as plan;
 ghost use Rattle.clu_expr_reader.specs.Gives.{Gives};
-ghost use Rattle.clu_stmt_reader.specs.Loops as loops;
 ghost use Rattle.clu_stmt_reader.specs.Parts as parts;
 
-use crate::pass::pass;
 use crate::sized::{SizedIter, SizedValue, SizedVariable};
-use clu_expr_reader::{Cursor, ReadFault, SizedExpr, SizedExprs, SizedShape, args, expr, shape};
+use clu_expr_reader::{
+    Cursor, ReadFault, SizedExpr, SizedExprs, SizedShape, args, expr, pass, shape,
+};
 use clu_tree::{Iter, Key, Lexeme, Named, Text};
 use sqlite_items::{Boxed, Items};
 use std::alloc::Global;
-
-/// Whether a comma comes next.
-pub fn at_comma(cursor: &Cursor<'_>) -> bool
-    ensures { result ≡ loops.at_comma cursor.now }
-{
-    matches!(cursor.peek(), Some(Lexeme::Key(Key::Comma, _)))
-}
 
 #[tactic(auto, unfolding(crate::specs::Parts::name))]
 fn name(alloc: Global, cursor: &mut Cursor<'_>) -> Result<Text, ReadFault>
@@ -36,7 +29,7 @@ pub fn names(alloc: Global, cursor: &mut Cursor<'_>) -> Result<Items<Text>, Read
     let mut found = Items::new(alloc);
     for _turn in 0..cursor.left() {
         found.push(name(alloc, cursor)?)?;
-        if !at_comma(cursor) {
+        if !cursor.at_comma() {
             return Ok(found);
         }
         cursor.skip();
@@ -309,7 +302,8 @@ fn elements(alloc: Global, cursor: &mut Cursor<'_>, depth: u32) -> Result<SizedI
 /// Reads what stands at `int$from_to(`.
 fn ranged(alloc: Global, cursor: &mut Cursor<'_>, depth: u32) -> Result<SizedIter, ReadFault>
     requires { depth ≤ 200 }
-    ensures { Gives (λ x. x.iter) result cursor.new (parts.range depth (line_of cursor.old) (drop 2 (drop 2 cursor.old))) }
+    ensures { Gives (λ x. x.iter) result cursor.new
+        (parts.range depth (line_of cursor.old) (drop 2 (drop 2 cursor.old))) }
 {
     let line = cursor.first_line();
     cursor.skip_two();

@@ -10,11 +10,10 @@ ghost use Rattle.clu_stmt_reader.specs.Places.{place_of};
 
 use crate::follow::{given, new_value};
 use crate::node;
-use crate::pass::pass;
 use crate::place::Place;
 use crate::sized::{SizedStmt, SizedTarget};
-use clu_expr_reader::node::{call, field, fit, index};
-use clu_expr_reader::{Cursor, ReadFault, SizedExpr, atom, expr, group};
+use clu_expr_reader::node::{call, field, index};
+use clu_expr_reader::{Cursor, ReadFault, SizedExpr, atom, expr, group, pass};
 use clu_tree::{Expr, Key, Lexeme, Meant, Target, Text};
 use sqlite_items::Boxed;
 use std::alloc::Global;
@@ -28,12 +27,13 @@ fn place_node(
     place: Place,
 ) -> Result<SizedExpr, ReadFault>
     requires { depth ≤ 200 }
-    ensures { Gives (λ x. x.expr) result cursor.now (expr_within depth (plan.place_node line (place_of place)) cursor.now) }
+    ensures { Gives (λ x. x.expr) result cursor.now
+        (expr_within depth (plan.place_node line (place_of place)) cursor.now) }
 {
     match place {
-        Place::Whole(of) => fit(alloc, cursor, depth, of.expr.into_inner(), of.height),
-        Place::FieldOf(of, name) => field(alloc, cursor, depth, of, name, line),
-        Place::ItemOf(of, at) => index(alloc, cursor, depth, of, at, line),
+        Place::Whole(of) => of.into_node().fit(alloc, cursor, depth),
+        Place::FieldOf(of, name) => field(of, name, line).fit(alloc, cursor, depth),
+        Place::ItemOf(of, at) => index(of, at, line).fit(alloc, cursor, depth),
     }
 }
 
@@ -113,7 +113,8 @@ fn places(
     first: Place,
 ) -> Result<Place, ReadFault>
     requires { depth ≤ 200 }
-    ensures { Gives place_of result cursor.new (plan.places (parts.inner depth) depth (suc depth) line (place_of first) cursor.old) }
+    ensures { Gives place_of result cursor.new
+        (plan.places (parts.inner depth) depth (suc depth) line (place_of first) cursor.old) }
 {
     let mut place = first;
     for _turn in 0..depth + 1 {
@@ -133,7 +134,7 @@ fn called(alloc: Global, cursor: &mut Cursor<'_>, depth: u32) -> Result<SizedExp
 {
     let (name, line) = cursor.name(alloc)?;
     let given = given(alloc, cursor, depth)?;
-    call(alloc, cursor, depth, name, given, line)
+    call(name, given, line).fit(alloc, cursor, depth)
 }
 
 /// Whether a name and an opening bracket come next.
@@ -150,7 +151,8 @@ fn at_call(cursor: &Cursor<'_>) -> bool
     }
 }
 
-/// The primary at the front of a statement, up to a field or an element of it. A bracket behind a name opens its arguments.
+/// The primary at the front of a statement, up to a field or an element of it. A bracket behind a name opens its
+/// arguments.
 #[tactic(auto, using(crate::proofs::Steps::fronts))]
 fn front(alloc: Global, cursor: &mut Cursor<'_>, depth: u32) -> Result<SizedExpr, ReadFault>
     requires { depth ≤ 200 }
@@ -159,7 +161,7 @@ fn front(alloc: Global, cursor: &mut Cursor<'_>, depth: u32) -> Result<SizedExpr
     if at_call(cursor) {
         return called(alloc, cursor, depth);
     }
-    if opens(cursor) {
+    if cursor.opens() {
         cursor.skip();
         return group(alloc, cursor, depth);
     }
@@ -238,14 +240,6 @@ fn front_stmt(
     }
 }
 
-/// Whether an opening bracket comes next.
-#[tactic(auto, unfolding(crate::specs::Parts::opens))]
-fn opens(cursor: &Cursor<'_>) -> bool
-    ensures { result ≡ parts.opens cursor.now }
-{
-    matches!(cursor.peek(), Some(Lexeme::Key(Key::LParen, _)))
-}
-
 /// Reads a statement that begins with a primary.
 #[tactic(auto, unfolding(crate::specs::Parts::from_front))]
 pub fn from_front(
@@ -256,7 +250,7 @@ pub fn from_front(
     requires { depth ≤ 200 }
     ensures { Gives (λ x. x.stmt) result cursor.new (parts.from_front depth cursor.old) }
 {
-    let grouped = opens(cursor);
+    let grouped = cursor.opens();
     let line = cursor.first_line();
     let first = front(alloc, cursor, depth)?;
     let place = places(alloc, cursor, depth, line, Place::Whole(first))?;

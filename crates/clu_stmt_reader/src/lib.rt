@@ -6,7 +6,6 @@ mod follow;
 mod front;
 mod kind;
 mod node;
-mod pass;
 mod place;
 mod reader;
 mod remote;

@@ -35,7 +35,8 @@ pub fn declare(
     line: u32,
 ) -> Result<SizedStmt, ReadFault>
     requires { depth ≤ 200 }
-    ensures { Gives (λ x. x.stmt) result cursor.now (stmt_within depth (Stmt.Declare name of.shape value.value line) cursor.now) }
+    ensures { Gives (λ x. x.stmt) result cursor.now
+        (stmt_within depth (Stmt.Declare name of.shape value.value line) cursor.now) }
 {
     let height = 1 + of.height.max(value.height);
     let node = Stmt::Declare(name, of.shape, value.value, line);
@@ -50,7 +51,8 @@ pub fn assign(
     line: u32,
 ) -> Result<SizedStmt, ReadFault>
     requires { depth ≤ 200 }
-    ensures { Gives (λ x. x.stmt) result cursor.now (stmt_within depth (Stmt.Assign target.target value.expr line) cursor.now) }
+    ensures { Gives (λ x. x.stmt) result cursor.now
+        (stmt_within depth (Stmt.Assign target.target value.expr line) cursor.now) }
 {
     let height = 1 + target.height.max(value.height);
     let node = Stmt::Assign(target.target.into_inner(), value.expr.into_inner(), line);
@@ -65,7 +67,8 @@ pub fn remote(
     line: u32,
 ) -> Result<SizedStmt, ReadFault>
     requires { depth ≤ 200 }
-    ensures { Gives (λ x. x.stmt) result cursor.now (stmt_within depth (Stmt.Remote target call.remote line Meant.Unknown) cursor.now) }
+    ensures { Gives (λ x. x.stmt) result cursor.now
+        (stmt_within depth (Stmt.Remote target call.remote line Meant.Unknown) cursor.now) }
 {
     let height = 1 + call.height;
     let node = Stmt::Remote(target, call.remote.into_inner(), line, Meant::Unknown);
@@ -134,7 +137,8 @@ pub fn fork(
     line: u32,
 ) -> Result<SizedStmt, ReadFault>
     requires { depth ≤ 200 }
-    ensures { Gives (λ x. x.stmt) result cursor.now (stmt_within depth (Stmt.Fork name args.items line Meant.Unknown) cursor.now) }
+    ensures { Gives (λ x. x.stmt) result cursor.now
+        (stmt_within depth (Stmt.Fork name args.items line Meant.Unknown) cursor.now) }
 {
     let height = 1 + args.height;
     let node = Stmt::Fork(name, args.items, line, Meant::Unknown);
@@ -178,7 +182,8 @@ pub fn choice(
     line: u32,
 ) -> Result<SizedStmt, ReadFault>
     requires { depth ≤ 200 }
-    ensures { Gives (λ x. x.stmt) result cursor.now (stmt_within depth (Stmt.If test.expr body.items arms.arms others.body line) cursor.now) }
+    ensures { Gives (λ x. x.stmt) result cursor.now
+        (stmt_within depth (Stmt.If test.expr body.items arms.arms others.body line) cursor.now) }
 {
     let deepest = body.height.max(arms.height.max(others.height));
     let height = 1 + test.height.max(deepest);
@@ -200,7 +205,8 @@ pub fn repeat(
     line: u32,
 ) -> Result<SizedStmt, ReadFault>
     requires { depth ≤ 200 }
-    ensures { Gives (λ x. x.stmt) result cursor.now (stmt_within depth (Stmt.While test.expr body.items line) cursor.now) }
+    ensures { Gives (λ x. x.stmt) result cursor.now
+        (stmt_within depth (Stmt.While test.expr body.items line) cursor.now) }
 {
     let height = 1 + test.height.max(body.height);
     let node = Stmt::While(test.expr.into_inner(), body.items, line);
@@ -217,7 +223,8 @@ pub fn each(
     line: u32,
 ) -> Result<SizedStmt, ReadFault>
     requires { depth ≤ 200 }
-    ensures { Gives (λ x. x.stmt) result cursor.now (stmt_within depth (Stmt.For name of.shape over.iter body.items line) cursor.now) }
+    ensures { Gives (λ x. x.stmt) result cursor.now
+        (stmt_within depth (Stmt.For name of.shape over.iter body.items line) cursor.now) }
 {
     let height = 1 + of.height.max(over.height.max(body.height));
     let node = Stmt::For(name, of.shape, over.iter.into_inner(), body.items, line);
@@ -233,7 +240,8 @@ pub fn tagcase(
     line: u32,
 ) -> Result<SizedStmt, ReadFault>
     requires { depth ≤ 200 }
-    ensures { Gives (λ x. x.stmt) result cursor.now (stmt_within depth (Stmt.Tagcase of.expr tags.tags others.body line) cursor.now) }
+    ensures { Gives (λ x. x.stmt) result cursor.now
+        (stmt_within depth (Stmt.Tagcase of.expr tags.tags others.body line) cursor.now) }
 {
     let height = 1 + of.height.max(tags.height.max(others.height));
     let node = Stmt::Tagcase(of.expr.into_inner(), tags.tags, others.body, line);
@@ -261,7 +269,8 @@ pub fn region(
     line: u32,
 ) -> Result<SizedStmt, ReadFault>
     requires { depth ≤ 200 }
-    ensures { Gives (λ x. x.stmt) result cursor.now (stmt_within depth (Stmt.Region lock.expr body.items line) cursor.now) }
+    ensures { Gives (λ x. x.stmt) result cursor.now
+        (stmt_within depth (Stmt.Region lock.expr body.items line) cursor.now) }
 {
     let height = 1 + lock.height.max(body.height);
     let node = Stmt::Region(lock.expr.into_inner(), body.items, line);
@@ -276,7 +285,8 @@ pub fn except(
     handlers: SizedHandlers,
 ) -> Result<SizedStmt, ReadFault>
     requires { depth ≤ 200 }
-    ensures { Gives (λ x. x.stmt) result cursor.now (stmt_within depth (Stmt.Except of.stmt handlers.handlers) cursor.now) }
+    ensures { Gives (λ x. x.stmt) result cursor.now
+        (stmt_within depth (Stmt.Except of.stmt handlers.handlers) cursor.now) }
 {
     let height = 1 + of.height.max(handlers.height);
     let node = Stmt::Except(Boxed::new(alloc, of.stmt)?, handlers.handlers);

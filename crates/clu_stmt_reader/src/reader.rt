@@ -10,13 +10,12 @@ ghost use Rattle.clu_stmt_reader.specs.Parts as parts;
 use crate::follow::{iter, names, variable};
 use crate::front::from_front;
 use crate::kind::{Kind, next_kind};
-use crate::pass::pass;
 use crate::sized::{
     SizedArm, SizedArms, SizedHandlers, SizedIter, SizedOthers, SizedStmt, SizedStmts, SizedTag,
     SizedTags, SizedVariable, SizedWhen, SizedWhens,
 };
 use crate::{node, simple};
-use clu_expr_reader::{Cursor, ReadFault, SizedExpr, SizedShape, expr, shape};
+use clu_expr_reader::{Cursor, ReadFault, SizedExpr, SizedShape, expr, pass, shape};
 use clu_tree::{Arm, Handlers, Key, Lexeme, Meant, TagArm, Text, When};
 use std::alloc::Global;
 
@@ -167,7 +166,8 @@ impl<F: Fn(Global, &mut Cursor<'_>, u32) -> Result<SizedStmts, ReadFault>> Reade
 
     fn arms(&self, cursor: &mut Cursor<'_>) -> Result<SizedArms, ReadFault>
         requires { ReadsBodies self.now.depth (F.pre self.now.inner) (F.post self.now.inner) }
-        ensures { Gives (λ x. x.arms) result cursor.new (plan.arms (parts.inner self.now.depth) self.now.depth (suc (length cursor.old)) cursor.old) }
+        ensures { Gives (λ x. x.arms) result cursor.new
+            (plan.arms (parts.inner self.now.depth) self.now.depth (suc (length cursor.old)) cursor.old) }
     {
         let mut found = SizedArms::new(self.alloc);
         for _turn in 0..=cursor.left() {
@@ -217,7 +217,8 @@ impl<F: Fn(Global, &mut Cursor<'_>, u32) -> Result<SizedStmts, ReadFault>> Reade
 
     fn tags(&self, cursor: &mut Cursor<'_>) -> Result<SizedTags, ReadFault>
         requires { ReadsBodies self.now.depth (F.pre self.now.inner) (F.post self.now.inner) }
-        ensures { Gives (λ x. x.tags) result cursor.new (plan.tags (parts.inner self.now.depth) self.now.depth (suc (length cursor.old)) cursor.old) }
+        ensures { Gives (λ x. x.tags) result cursor.new
+            (plan.tags (parts.inner self.now.depth) self.now.depth (suc (length cursor.old)) cursor.old) }
     {
         let mut found = SizedTags::new(self.alloc);
         for _turn in 0..=cursor.left() {
@@ -266,7 +267,8 @@ impl<F: Fn(Global, &mut Cursor<'_>, u32) -> Result<SizedStmts, ReadFault>> Reade
 
     fn whens(&self, cursor: &mut Cursor<'_>) -> Result<SizedWhens, ReadFault>
         requires { ReadsBodies self.now.depth (F.pre self.now.inner) (F.post self.now.inner) }
-        ensures { Gives (λ x. x.whens) result cursor.new (plan.whens (parts.inner self.now.depth) self.now.depth (suc (length cursor.old)) cursor.old) }
+        ensures { Gives (λ x. x.whens) result cursor.new
+            (plan.whens (parts.inner self.now.depth) self.now.depth (suc (length cursor.old)) cursor.old) }
     {
         let mut found = SizedWhens::new(self.alloc);
         for _turn in 0..=cursor.left() {
@@ -287,7 +289,8 @@ impl<F: Fn(Global, &mut Cursor<'_>, u32) -> Result<SizedStmts, ReadFault>> Reade
         whens: SizedWhens,
     ) -> Result<SizedHandlers, ReadFault>
         requires { ReadsBodies self.now.depth (F.pre self.now.inner) (F.post self.now.inner) }
-        ensures { Gives (λ x. x.handlers) result cursor.new (parts.other_handler self.now.depth whens.whens cursor.old) }
+        ensures { Gives (λ x. x.handlers) result cursor.new
+            (parts.other_handler self.now.depth whens.whens cursor.old) }
     {
         let others = if at_others(cursor) {
             cursor.skip_two();
@@ -450,7 +453,8 @@ impl<F: Fn(Global, &mut Cursor<'_>, u32) -> Result<SizedStmts, ReadFault>> Reade
     #[tactic(auto, unfolding(crate::specs::Kinds::by_kind))]
     fn alone(&self, cursor: &mut Cursor<'_>) -> Result<SizedStmt, ReadFault>
         requires { ReadsBodies self.now.depth (F.pre self.now.inner) (F.post self.now.inner) }
-        ensures { Gives (λ x. x.stmt) result cursor.new (kinds.by_kind self.now.depth (kinds.kind_of cursor.old) cursor.old) }
+        ensures { Gives (λ x. x.stmt) result cursor.new
+            (kinds.by_kind self.now.depth (kinds.kind_of cursor.old) cursor.old) }
     {
         match next_kind(cursor) {
             Kind::Declaration => simple::declaration(self.alloc, cursor, self.depth),
@@ -512,7 +516,8 @@ impl<F: Fn(Global, &mut Cursor<'_>, u32) -> Result<SizedStmts, ReadFault>> Reade
 
     fn suffixes(&self, cursor: &mut Cursor<'_>, first: SizedStmt) -> Result<SizedStmt, ReadFault>
         requires { ReadsBodies self.now.depth (F.pre self.now.inner) (F.post self.now.inner) }
-        ensures { Gives (λ x. x.stmt) result cursor.new (plan.suffixes (parts.inner self.now.depth) self.now.depth (suc self.now.depth) first.stmt cursor.old) }
+        ensures { Gives (λ x. x.stmt) result cursor.new
+            (plan.suffixes (parts.inner self.now.depth) self.now.depth (suc self.now.depth) first.stmt cursor.old) }
     {
         let mut of = first;
         for _turn in 0..self.depth + 1 {
@@ -527,7 +532,8 @@ impl<F: Fn(Global, &mut Cursor<'_>, u32) -> Result<SizedStmts, ReadFault>> Reade
     #[tactic(auto, using(crate::proofs::Steps::statements))]
     fn stmt(&self, cursor: &mut Cursor<'_>) -> Result<SizedStmt, ReadFault>
         requires { ReadsBodies self.now.depth (F.pre self.now.inner) (F.post self.now.inner) }
-        ensures { Gives (λ x. x.stmt) result cursor.new (plan.stmt (parts.inner self.now.depth) self.now.depth cursor.old) }
+        ensures { Gives (λ x. x.stmt) result cursor.new
+            (plan.stmt (parts.inner self.now.depth) self.now.depth cursor.old) }
     {
         let first = self.alone(cursor)?;
         self.suffixes(cursor, first)
@@ -536,7 +542,8 @@ impl<F: Fn(Global, &mut Cursor<'_>, u32) -> Result<SizedStmts, ReadFault>> Reade
     /// Reads the statements up to where a body ends.
     pub fn stmts(&self, cursor: &mut Cursor<'_>) -> Result<SizedStmts, ReadFault>
         requires { ReadsBodies self.now.depth (F.pre self.now.inner) (F.post self.now.inner) }
-        ensures { Gives (λ x. x.items) result cursor.new (plan.stmts (parts.inner self.now.depth) self.now.depth (suc (length cursor.old)) cursor.old) }
+        ensures { Gives (λ x. x.items) result cursor.new
+            (plan.stmts (parts.inner self.now.depth) self.now.depth (suc (length cursor.old)) cursor.old) }
     {
         let mut found = SizedStmts::new(self.alloc);
         for _turn in 0..=cursor.left() {

@@ -5,9 +5,8 @@ ghost use Rattle.clu_expr_reader.specs.Gives.{Gives};
 ghost use Rattle.clu_stmt_reader.specs.Parts as parts;
 
 use crate::follow::given;
-use crate::pass::pass;
 use crate::sized::SizedRemote;
-use clu_expr_reader::{Cursor, ReadFault, SizedExpr, SizedExprs, expr};
+use clu_expr_reader::{Cursor, ReadFault, SizedExpr, SizedExprs, expr, pass};
 use clu_tree::{Key, Lexeme, Meant, Remote};
 use sqlite_items::Boxed;
 use std::alloc::Global;

@@ -7,21 +7,12 @@ ghost use Rattle.clu_stmt_reader.specs.Parts as parts;
 
 use crate::follow::{bracketed_value, carried, given, new_value};
 use crate::node;
-use crate::pass::pass;
 use crate::remote::remote;
 use crate::sized::{SizedStmt, SizedTarget, SizedValue};
-use clu_expr_reader::{Cursor, ReadFault, SizedShape, expr, shape};
+use clu_expr_reader::{Cursor, ReadFault, SizedShape, expr, pass, shape};
 use clu_tree::{Key, Lexeme, Meant, Target, Text};
 use sqlite_items::Boxed;
 use std::alloc::{AllocError, Global};
-
-/// Whether `:=` comes next.
-#[tactic(auto, unfolding(crate::specs::Parts::at_becomes))]
-fn at_becomes(cursor: &Cursor<'_>) -> bool
-    ensures { result ≡ parts.at_becomes cursor.now }
-{
-    matches!(cursor.peek(), Some(Lexeme::Key(Key::Becomes, _)))
-}
 
 /// Reads the initial value of a variable, if one is written.
 #[tactic(auto, using(crate::proofs::Steps::declarations))]
@@ -36,7 +27,7 @@ fn declared(
     requires { depth ≤ 200 }
     ensures { Gives (λ x. x.stmt) result cursor.new (parts.declared depth name line of.shape cursor.old) }
 {
-    if at_becomes(cursor) {
+    if cursor.becomes() {
         let value = new_value(alloc, cursor, depth)?;
         return node::declare(cursor, depth, name, of, SizedValue::of(value), line);
     }

@@ -51,13 +51,14 @@ fn token_at(text: &[u8], at: usize, line: u32) -> Result<Token, TextFault>
     }
 }
 
-/// The tokens of a text of at most 1 MiB, in order. Blanks and comments are none; a comment runs from `%` to the end of its line.
-/// At each place the longest token is taken.
+/// The tokens of a text of at most 1 MiB, in order. Blanks and comments are none; a comment runs from `%` to the end of
+/// its line. At each place the longest token is taken.
 ///
 /// # Errors
 ///
 /// - `BadByte` exactly where the text has a place at which no token begins, and no too great int before the first such.
-/// - `Wide` exactly where the text has an int above 2^63-1, and no place before the first such at which no token begins.
+/// - `Wide` exactly where the text has an int above 2^63-1, and no place before the first such at which no token
+///   begins.
 /// - `Memory` where memory ran out, in place of any other answer.
 pub fn tokens(alloc: Global, text: &[u8]) -> Result<Vec<Token>, TextFault>
     requires { length text.now ≤ 1048576 }
@@ -66,10 +67,12 @@ pub fn tokens(alloc: Global, text: &[u8]) -> Result<Vec<Token>, TextFault>
     ensures ok_without_fault { HasNoFault text.now → IsOkUnless result TextFault.Memory }
 
     ensures bad_byte_only { (place : ℕ) → result ≡ Err (TextFault.BadByte place) → IsBadByte text.now place }
-    ensures bad_byte { (place : ℕ) → IsBadByte text.now place → IsErrAnd result (λ e. (e ≡ TextFault.BadByte place) ⊎ (e ≡ TextFault.Memory)) }
+    ensures bad_byte { (place : ℕ) → IsBadByte text.now place →
+        IsErrAnd result (λ e. (e ≡ TextFault.BadByte place) ⊎ (e ≡ TextFault.Memory)) }
 
     ensures wide_only { (place : ℕ) → result ≡ Err (TextFault.Wide place) → IsWide text.now place }
-    ensures wide { (place : ℕ) → IsWide text.now place → IsErrAnd result (λ e. (e ≡ TextFault.Wide place) ⊎ (e ≡ TextFault.Memory)) }
+    ensures wide { (place : ℕ) → IsWide text.now place →
+        IsErrAnd result (λ e. (e ≡ TextFault.Wide place) ⊎ (e ≡ TextFault.Memory)) }
 {
     let mut found = Vec::new(alloc);
     let mut line: u32 = 1;

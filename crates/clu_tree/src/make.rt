@@ -1,5 +1,5 @@
-//! One constructor for each alternative of the grammar that has parts; the types of one word are the variants of `Shape`.
-//! Each answers exactly the node of its arguments, and fails only where it needs memory for a node inside.
+//! One constructor for each alternative of the grammar that has parts; the types of one word are the variants of
+//! `Shape`. Each answers exactly the node of its arguments, and fails only where it needs memory for a node inside.
 
 mod exprs;
 mod programs;

@@ -16,7 +16,8 @@ pub fn guards_law()
     ensures { (d : Declarations) (n : List ℕ) (t : Option Shape) → GuardsLaw d n t }
 {}
 
-/// Filling a program changes nothing but what its nodes stand for, sees nothing of what they stood for, and twice is once.
+/// Filling a program changes nothing but what its nodes stand for, sees nothing of what they stood for, and twice is
+/// once.
 pub fn filling_law()
     ensures { FillingLaw }
 {}

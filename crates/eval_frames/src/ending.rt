@@ -16,7 +16,8 @@ pub fn acts(
     frame: Frame,
     act: Act,
 ) -> Result<StepEnd, AllocError>
-    ensures { IfOk result (λ end. (w : World) → gives w [] act (frame ∷ frames.old) ≡ gives w end.left end.act frames.new) }
+    ensures { IfOk result (λ end.
+        (w : World) → gives w [] act (frame ∷ frames.old) ≡ gives w end.left end.act frames.new) }
 {
     frames.push(frame)?;
     Ok(StepEnd {
@@ -38,7 +39,8 @@ pub fn ends(
     left: Items<Addr>,
     value: Value,
 ) -> Result<StepEnd, AllocError>
-    ensures { IfOk result (λ end. (w : World) → frames_rule.ends w left value frames.old ≡ gives w end.left end.act frames.new) }
+    ensures { IfOk result (λ end.
+        (w : World) → frames_rule.ends w left value frames.old ≡ gives w end.left end.act frames.new) }
 {
     match frames.pop() {
         None => Ok(StepEnd {

@@ -20,7 +20,9 @@ pub fn adds(
     mut frame: Frame,
     value: Value,
 ) -> Result<StepEnd, AllocError>
-    ensures { IfOk result (λ end. (w : World) → operation.adds w frame frames.old frame.work value frame.values ≡ gives w end.left end.act frames.new) }
+    ensures { IfOk result (λ end.
+        (w : World) →
+        operation.adds w frame frames.old frame.work value frame.values ≡ gives w end.left end.act frames.new) }
 {
     frame.values.push(value)?;
     goes(alloc, frames, frame)
@@ -33,7 +35,9 @@ pub fn puts(
     mut frame: Frame,
     body: Items<Stmt>,
 ) -> Result<StepEnd, AllocError>
-    ensures { IfOk result (λ end. (w : World) → rule.puts w frame frames.old frame.work frame.values body ≡ gives w end.left end.act frames.new) }
+    ensures { IfOk result (λ end.
+        (w : World) →
+        rule.puts w frame frames.old frame.work frame.values body ≡ gives w end.left end.act frames.new) }
 {
     put_body(&mut frame.work, body)?;
     goes(alloc, frames, frame)
@@ -49,7 +53,10 @@ pub fn begins(
     value: Value,
     body: Items<Stmt>,
 ) -> Result<StepEnd, AllocError>
-    ensures { IfOk result (λ end. (w : World) → rule.begins w frame frames.old frame.work frame.values name shape value body ≡ gives w end.left end.act frames.new) }
+    ensures { IfOk result (λ end.
+        (w : World) →
+        rule.begins w frame frames.old frame.work frame.values name shape value body
+        ≡ gives w end.left end.act frames.new) }
 {
     declare(&mut frame.vars, name, shape, Some(value))?;
     put_body(&mut frame.work, body)?;

@@ -94,7 +94,8 @@ fn answer_of(name: &Text, catch: Catch) -> Taken
 
 /// Drops items down to the first guard that takes an exception of this name, and drops that.
 pub fn land(alloc: Global, work: &mut Stack<Item>, name: &Text) -> Result<Landed, AllocError>
-    ensures landing { IfOk result (λ landed. rule.landing name.now work.old ≡ landings.found (takes.seen landed.by) landed.gone work.new) }
+    ensures landing { IfOk result (λ landed.
+        rule.landing name.now work.old ≡ landings.found (takes.seen landed.by) landed.gone work.new) }
     ensures locks { IfOk result (λ landed. leaves work.old ≡ landed.gone ++ leaves work.new) }
     ensures all { IfOk result (λ landed. takes.seen landed.by ≡ rule.Lets → work.new ≡ []) }
 {

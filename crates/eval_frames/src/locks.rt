@@ -24,7 +24,8 @@ pub fn leaves(alloc: Global, mut work: Stack<Item>) -> Result<Items<Addr>, Alloc
 
 /// Whether this item gives the lock back.
 fn is_leave_of(item: &Item, addr: Addr) -> bool
-    ensures { (behind : List Work) → rule.is_held addr (rule.leaves (item.now ∷ behind)) ≡ (result || rule.is_held addr (rule.leaves behind)) }
+    ensures { (behind : List Work) →
+        rule.is_held addr (rule.leaves (item.now ∷ behind)) ≡ (result || rule.is_held addr (rule.leaves behind)) }
 {
     match item {
         Item::Leave(lock) => addr.0 == lock.0,
@@ -35,7 +36,8 @@ fn is_leave_of(item: &Item, addr: Addr) -> bool
 /// Whether the item at a place gives this lock back.
 fn gives_back_at(work: &Stack<Item>, at: usize, addr: Addr) -> bool
     requires { at < length work.now }
-    ensures { rule.is_held addr (rule.leaves (drop at work.now)) ≡ (result || rule.is_held addr (rule.leaves (drop (at + 1) work.now))) }
+    ensures { rule.is_held addr (rule.leaves (drop at work.now))
+        ≡ (result || rule.is_held addr (rule.leaves (drop (at + 1) work.now))) }
 {
     match work.get(at) {
         Some(item) => is_leave_of(item, addr),
@@ -58,7 +60,8 @@ fn gives_back(work: &Stack<Item>, addr: Addr) -> bool
 /// Whether the frame at a place holds this lock.
 fn holds_at(frames: &Stack<Frame>, at: usize, addr: Addr) -> bool
     requires { at < length frames.now }
-    ensures { rule.is_held addr (rule.held (drop at frames.now)) ≡ (result || rule.is_held addr (rule.held (drop (at + 1) frames.now))) }
+    ensures { rule.is_held addr (rule.held (drop at frames.now))
+        ≡ (result || rule.is_held addr (rule.held (drop (at + 1) frames.now))) }
 {
     match frames.get(at) {
         Some(frame) => gives_back(&frame.work, addr),

@@ -77,7 +77,10 @@ fn handle(
     value: Option<Value>,
 ) -> Result<StepEnd, AllocError>
     requires { IsSome (rule.caught variable value frame.vars) }
-    ensures { IfOk result (λ end. (w : World) → rule.handled w left frame frames.old (map Exec body ++ frame.work) (rule.caught variable value frame.vars) ≡ gives w end.left end.act frames.new) }
+    ensures { IfOk result (λ end.
+        (w : World) →
+        rule.handled w left frame frames.old (map Exec body ++ frame.work) (rule.caught variable value frame.vars)
+        ≡ gives w end.left end.act frames.new) }
 {
     catches(&mut frame.vars, variable, value)?;
     put_body(&mut frame.work, body)?;
@@ -156,7 +159,8 @@ pub fn fail(
 ) -> Result<StepEnd, AllocError>
     ghost w: { World }
     requires { IsSome (rule.fails w text.now frame frames.old frame.work) }
-    ensures { IfOk result (λ end. rule.fails w text.now frame frames.old frame.work ≡ gives w end.left end.act frames.new) }
+    ensures { IfOk result (λ end.
+        rule.fails w text.now frame frames.old frame.work ≡ gives w end.left end.act frames.new) }
 {
     let sig = failure(alloc, text)?;
     raise(alloc, frames, frame, sig)

@@ -25,7 +25,8 @@ fn place_of(vars: &[Var], name: &Text) -> Option<usize>
 
 /// The variable of this name.
 pub fn find<'a>(vars: &'a Items<Var>, name: &Text) -> Option<&'a Var>
-    ensures { MatchOption result (rule.found name.now vars.now ≡ None) (λ var. rule.found name.now vars.now ≡ Some var.now) }
+    ensures { MatchOption result (rule.found name.now vars.now ≡ None) (λ var.
+        rule.found name.now vars.now ≡ Some var.now) }
 {
     match place_of(vars.as_slice(), name) {
         None => None,

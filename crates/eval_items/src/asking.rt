@@ -23,7 +23,8 @@ pub fn spawn(
     ghost w: { World }
     requires program { w.program ≡ program.now }
     requires row { IsSome (rule.row_at w frame frames.old frame.work (item.Spawn k)) }
-    ensures { IfOk result (λ end. rule.row_at w frame frames.old frame.work (item.Spawn k) ≡ gives w end.left end.act frames.new) }
+    ensures { IfOk result (λ end.
+        rule.row_at w frame frames.old frame.work (item.Spawn k) ≡ gives w end.left end.act frames.new) }
 {
     let Some(routine) = program.routines.get(k as usize) else {
         unreachable!();
@@ -58,7 +59,8 @@ pub fn ask_once(
     ghost w: { World }
     requires program { w.program ≡ program.now }
     requires row { IsSome (rule.row_at w frame frames.old frame.work (item.AskOnce k)) }
-    ensures { IfOk result (λ end. rule.row_at w frame frames.old frame.work (item.AskOnce k) ≡ gives w end.left end.act frames.new) }
+    ensures { IfOk result (λ end.
+        rule.row_at w frame frames.old frame.work (item.AskOnce k) ≡ gives w end.left end.act frames.new) }
 {
     match frame.values.pop() {
         Some(Value::Int(to)) => sends_once(alloc, program, frames, frame, k, to),
@@ -76,8 +78,13 @@ fn sends_once(
     to: i64,
 ) -> Result<StepEnd, AllocError>
     ghost w: { World }
-    requires { IsSome (taking_args (slice_get program.now.routines k) frame.values (λ r. rule.sends_once w frame frames.old frame.work k to)) }
-    ensures { IfOk result (λ end. taking_args (slice_get program.now.routines k) frame.values (λ r. rule.sends_once w frame frames.old frame.work k to) ≡ gives w end.left end.act frames.new) }
+    requires { IsSome
+        (taking_args (slice_get program.now.routines k) frame.values (λ r.
+        rule.sends_once w frame frames.old frame.work k to)) }
+    ensures { IfOk result (λ end.
+        taking_args (slice_get program.now.routines k) frame.values (λ r.
+        rule.sends_once w frame frames.old frame.work k to)
+        ≡ gives w end.left end.act frames.new) }
 {
     let Some(routine) = program.routines.get(k as usize) else {
         unreachable!();
@@ -102,7 +109,8 @@ pub fn ask_maybe(
     ghost w: { World }
     requires program { w.program ≡ program.now }
     requires row { IsSome (rule.row_at w frame frames.old frame.work (item.AskMaybe k)) }
-    ensures { IfOk result (λ end. rule.row_at w frame frames.old frame.work (item.AskMaybe k) ≡ gives w end.left end.act frames.new) }
+    ensures { IfOk result (λ end.
+        rule.row_at w frame frames.old frame.work (item.AskMaybe k) ≡ gives w end.left end.act frames.new) }
 {
     let Some(within) = frame.values.pop() else {
         unreachable!();
@@ -129,8 +137,13 @@ fn sends_maybe(
     ms: i64,
 ) -> Result<StepEnd, AllocError>
     ghost w: { World }
-    requires { IsSome (taking_args (slice_get program.now.routines k) frame.values (λ r. rule.sends_maybe w frame frames.old frame.work k to ms)) }
-    ensures { IfOk result (λ end. taking_args (slice_get program.now.routines k) frame.values (λ r. rule.sends_maybe w frame frames.old frame.work k to ms) ≡ gives w end.left end.act frames.new) }
+    requires { IsSome
+        (taking_args (slice_get program.now.routines k) frame.values (λ r.
+        rule.sends_maybe w frame frames.old frame.work k to ms)) }
+    ensures { IfOk result (λ end.
+        taking_args (slice_get program.now.routines k) frame.values (λ r.
+        rule.sends_maybe w frame frames.old frame.work k to ms)
+        ≡ gives w end.left end.act frames.new) }
 {
     let Some(routine) = program.routines.get(k as usize) else {
         unreachable!();

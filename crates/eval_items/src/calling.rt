@@ -22,7 +22,8 @@ pub fn enter(
     ghost w: { World }
     requires program { w.program ≡ program.now }
     requires row { IsSome (rule.row_at w frame frames.old frame.work (item.Enter k)) }
-    ensures { IfOk result (λ end. rule.row_at w frame frames.old frame.work (item.Enter k) ≡ gives w end.left end.act frames.new) }
+    ensures { IfOk result (λ end.
+        rule.row_at w frame frames.old frame.work (item.Enter k) ≡ gives w end.left end.act frames.new) }
 {
     let Some(routine) = program.routines.get(k as usize) else {
         unreachable!();
@@ -42,7 +43,9 @@ fn enters(
 ) -> Result<StepEnd, AllocError>
     ghost w: { World }
     requires { IsSome (rule.enters w frame frames.old frame.work k routine.now args frame.values) }
-    ensures { IfOk result (λ end. rule.enters w frame frames.old frame.work k routine.now args frame.values ≡ gives w end.left end.act frames.new) }
+    ensures { IfOk result (λ end.
+        rule.enters w frame frames.old frame.work k routine.now args frame.values
+        ≡ gives w end.left end.act frames.new) }
 {
     if frames.len() < 999 {
         let inner = entry(alloc, k, routine, args)?;
@@ -62,7 +65,8 @@ pub fn fall(
     ghost w: { World }
     requires program { w.program ≡ program.now }
     requires row { IsSome (rule.row_at w frame frames.old frame.work item.Fall) }
-    ensures { IfOk result (λ end. rule.row_at w frame frames.old frame.work item.Fall ≡ gives w end.left end.act frames.new) }
+    ensures { IfOk result (λ end.
+        rule.row_at w frame frames.old frame.work item.Fall ≡ gives w end.left end.act frames.new) }
 {
     let Some(routine) = program.routines.get(frame.routine as usize) else {
         unreachable!();
@@ -79,7 +83,8 @@ fn falls(
 ) -> Result<StepEnd, AllocError>
     ghost w: { World }
     requires { IsSome (rule.fall_at w (locks frame.work) frames.old shape.now) }
-    ensures { IfOk result (λ end. rule.fall_at w (locks frame.work) frames.old shape.now ≡ gives w end.left end.act frames.new) }
+    ensures { IfOk result (λ end.
+        rule.fall_at w (locks frame.work) frames.old shape.now ≡ gives w end.left end.act frames.new) }
 {
     let left = leaves(alloc, frame.work)?;
     match shape {
@@ -100,7 +105,8 @@ pub fn raise(
 ) -> Result<StepEnd, AllocError>
     ghost w: { World }
     requires { IsSome (rule.row_at w frame frames.old frame.work (item.Raise name)) }
-    ensures { IfOk result (λ end. rule.row_at w frame frames.old frame.work (item.Raise name) ≡ gives w end.left end.act frames.new) }
+    ensures { IfOk result (λ end.
+        rule.row_at w frame frames.old frame.work (item.Raise name) ≡ gives w end.left end.act frames.new) }
 {
     let Some(value) = frame.values.pop() else {
         unreachable!();
@@ -118,7 +124,8 @@ pub fn give(
 ) -> Result<StepEnd, AllocError>
     ghost w: { World }
     requires { IsSome (rule.row_at w frame frames.old frame.work item.Give) }
-    ensures { IfOk result (λ end. rule.row_at w frame frames.old frame.work item.Give ≡ gives w end.left end.act frames.new) }
+    ensures { IfOk result (λ end.
+        rule.row_at w frame frames.old frame.work item.Give ≡ gives w end.left end.act frames.new) }
 {
     let Some(value) = frame.values.pop() else {
         unreachable!();

@@ -24,7 +24,8 @@ pub fn pick(
 ) -> Result<StepEnd, AllocError>
     ghost w: { World }
     requires { IsSome (rule.row_at w frame frames.old frame.work (item.Pick or second)) }
-    ensures { IfOk result (λ end. rule.row_at w frame frames.old frame.work (item.Pick or second) ≡ gives w end.left end.act frames.new) }
+    ensures { IfOk result (λ end.
+        rule.row_at w frame frames.old frame.work (item.Pick or second) ≡ gives w end.left end.act frames.new) }
 {
     match frame.values.pop() {
         Some(Value::Bool(first)) => picks(alloc, frames, frame, or, second, first),
@@ -41,7 +42,10 @@ fn picks(
     second: Expr,
     first: bool,
 ) -> Result<StepEnd, AllocError>
-    ensures { IfOk result (λ end. (w : World) → rule.picks w frame frames.old frame.work frame.values or second first ≡ gives w end.left end.act frames.new) }
+    ensures { IfOk result (λ end.
+        (w : World) →
+        rule.picks w frame frames.old frame.work frame.values or second first
+        ≡ gives w end.left end.act frames.new) }
 {
     match (or, first) {
         (true, true) => adds(alloc, frames, frame, Value::Bool(true)),
@@ -62,7 +66,9 @@ pub fn branch(
 ) -> Result<StepEnd, AllocError>
     ghost w: { World }
     requires { IsSome (rule.row_at w frame frames.old frame.work (item.Branch body arms others)) }
-    ensures { IfOk result (λ end. rule.row_at w frame frames.old frame.work (item.Branch body arms others) ≡ gives w end.left end.act frames.new) }
+    ensures { IfOk result (λ end.
+        rule.row_at w frame frames.old frame.work (item.Branch body arms others)
+        ≡ gives w end.left end.act frames.new) }
 {
     match frame.values.pop() {
         Some(Value::Bool(true)) => puts(alloc, frames, frame, body),
@@ -80,7 +86,10 @@ fn next_arm(
     mut arms: Items<Arm>,
     others: Option<Items<Stmt>>,
 ) -> Result<StepEnd, AllocError>
-    ensures { IfOk result (λ end. (w : World) → rule.branches w frame frames.old frame.work frame.values body arms others false ≡ gives w end.left end.act frames.new) }
+    ensures { IfOk result (λ end.
+        (w : World) →
+        rule.branches w frame frames.old frame.work frame.values body arms others false
+        ≡ gives w end.left end.act frames.new) }
 {
     if arms.is_empty() {
         return puts_others(alloc, frames, frame, others);
@@ -96,7 +105,9 @@ fn puts_others(
     frame: Frame,
     others: Option<Items<Stmt>>,
 ) -> Result<StepEnd, AllocError>
-    ensures { IfOk result (λ end. (w : World) → rule.puts_others w frame frames.old frame.work frame.values others ≡ gives w end.left end.act frames.new) }
+    ensures { IfOk result (λ end.
+        (w : World) →
+        rule.puts_others w frame frames.old frame.work frame.values others ≡ gives w end.left end.act frames.new) }
 {
     match others {
         None => goes(alloc, frames, frame),
@@ -115,7 +126,9 @@ pub fn go_round(
 ) -> Result<StepEnd, AllocError>
     ghost w: { World }
     requires { IsSome (rule.row_at w frame frames.old frame.work (item.Loop test body line)) }
-    ensures { IfOk result (λ end. rule.row_at w frame frames.old frame.work (item.Loop test body line) ≡ gives w end.left end.act frames.new) }
+    ensures { IfOk result (λ end.
+        rule.row_at w frame frames.old frame.work (item.Loop test body line)
+        ≡ gives w end.left end.act frames.new) }
 {
     match frame.values.pop() {
         Some(Value::Bool(true)) => loops(alloc, frames, frame, test, body, line),
@@ -133,7 +146,10 @@ fn loops(
     body: Items<Stmt>,
     line: u32,
 ) -> Result<StepEnd, AllocError>
-    ensures { IfOk result (λ end. (w : World) → rule.loops w frame frames.old frame.work frame.values test body line true ≡ gives w end.left end.act frames.new) }
+    ensures { IfOk result (λ end.
+        (w : World) →
+        rule.loops w frame frames.old frame.work frame.values test body line true
+        ≡ gives w end.left end.act frames.new) }
 {
     put_round(alloc, &mut frame.work, test, body, line)?;
     goes(alloc, frames, frame)

@@ -28,7 +28,8 @@ pub fn eval(
     requires time { w.time ≡ time }
     requires fits { time < 2 ^ 63 }
     requires row { IsSome (rule.row_at w frame frames.old frame.work (item.Eval expr)) }
-    ensures { IfOk result (λ end. rule.row_at w frame frames.old frame.work (item.Eval expr) ≡ gives w end.left end.act frames.new) }
+    ensures { IfOk result (λ end.
+        rule.row_at w frame frames.old frame.work (item.Eval expr) ≡ gives w end.left end.act frames.new) }
 {
     match expr {
         Expr::Literal(value, _) => adds(alloc, frames, frame, value),
@@ -78,7 +79,8 @@ fn binary(
 ) -> Result<StepEnd, AllocError>
     ghost w: { World }
     requires { IsSome (rule.eval_binary w frame frames.old frame.work operator a b meant) }
-    ensures { IfOk result (λ end. rule.eval_binary w frame frames.old frame.work operator a b meant ≡ gives w end.left end.act frames.new) }
+    ensures { IfOk result (λ end.
+        rule.eval_binary w frame frames.old frame.work operator a b meant ≡ gives w end.left end.act frames.new) }
 {
     match operator {
         Infix::Cand => evals_then(alloc, frames, frame, a, Item::Pick(false, b)),
@@ -94,7 +96,10 @@ fn makes_array(
     frame: Frame,
     elements: Items<Expr>,
 ) -> Result<StepEnd, AllocError>
-    ensures { IfOk result (λ end. (w : World) → rule.operands w frame frames.old frame.work elements (Some (item.MakeArray (length elements))) ≡ gives w end.left end.act frames.new) }
+    ensures { IfOk result (λ end.
+        (w : World) →
+        rule.operands w frame frames.old frame.work elements (Some (item.MakeArray (length elements)))
+        ≡ gives w end.left end.act frames.new) }
 {
     let count = elements.len();
     evals_all(alloc, frames, frame, elements, Item::MakeArray(count))
@@ -112,7 +117,8 @@ fn reads_name(
     ghost w: { World }
     requires vars { w.vars ≡ vars.now }
     requires row { IsSome (rule.eval_name w frame frames.old frame.work name meant) }
-    ensures { IfOk result (λ end. rule.eval_name w frame frames.old frame.work name meant ≡ gives w end.left end.act frames.new) }
+    ensures { IfOk result (λ end.
+        rule.eval_name w frame frames.old frame.work name meant ≡ gives w end.left end.act frames.new) }
 {
     match meant {
         Meant::Local => reads_local(alloc, frames, frame, name),
@@ -130,7 +136,9 @@ fn reads_local(
 ) -> Result<StepEnd, AllocError>
     ghost w: { World }
     requires { IsSome (rule.reads_local w frame frames.old frame.work (found name frame.vars)) }
-    ensures { IfOk result (λ end. rule.reads_local w frame frames.old frame.work (found name frame.vars) ≡ gives w end.left end.act frames.new) }
+    ensures { IfOk result (λ end.
+        rule.reads_local w frame frames.old frame.work (found name frame.vars)
+        ≡ gives w end.left end.act frames.new) }
 {
     match find(&frame.vars, &name) {
         None => unreachable!(),
@@ -151,7 +159,9 @@ fn reads_node(
 ) -> Result<StepEnd, AllocError>
     ghost w: { World }
     requires { IsSome (rule.reads_node w frame frames.old frame.work (slice_get vars.now k)) }
-    ensures { IfOk result (λ end. rule.reads_node w frame frames.old frame.work (slice_get vars.now k) ≡ gives w end.left end.act frames.new) }
+    ensures { IfOk result (λ end.
+        rule.reads_node w frame frames.old frame.work (slice_get vars.now k)
+        ≡ gives w end.left end.act frames.new) }
 {
     match at(vars, k as usize) {
         None => unreachable!(),
@@ -184,7 +194,8 @@ fn reads(
 ) -> Result<StepEnd, AllocError>
     ghost w: { World }
     requires { IsSome (rule.reads w frame frames.old frame.work value) }
-    ensures { IfOk result (λ end. rule.reads w frame frames.old frame.work value ≡ gives w end.left end.act frames.new) }
+    ensures { IfOk result (λ end.
+        rule.reads w frame frames.old frame.work value ≡ gives w end.left end.act frames.new) }
 {
     match value {
         None => fail(alloc, frames, frame, b"unset variable"),

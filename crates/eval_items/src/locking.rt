@@ -23,7 +23,10 @@ struct Looked {
 
 /// Whether a process with this frame before the others holds the lock.
 fn look(frames: &mut Stack<Frame>, frame: Frame, lock: Addr) -> Result<Looked, AllocError>
-    ensures { IfOk result (λ looked. (looked.frame ≡ frame) × (frames.new ≡ frames.old) × (looked.is_held ≡ is_held lock (leaves frame.work ++ held frames.old))) }
+    ensures { IfOk result (λ looked.
+        (looked.frame ≡ frame)
+        × (frames.new ≡ frames.old)
+        × (looked.is_held ≡ is_held lock (leaves frame.work ++ held frames.old))) }
 {
     frames.push(frame)?;
     let is_held = holds(frames, lock);
@@ -41,7 +44,11 @@ fn locks(
     body: Items<Stmt>,
     lock: Addr,
 ) -> Result<StepEnd, AllocError>
-    ensures { IfOk result (λ end. (w : World) → gives w [] (act.Enter lock) (with frame (map item.Exec body ++ item.Leave lock ∷ frame.work) frame.values ∷ frames.old) ≡ gives w end.left end.act frames.new) }
+    ensures { IfOk result (λ end.
+        (w : World) →
+        gives w [] (act.Enter lock)
+        (with frame (map item.Exec body ++ item.Leave lock ∷ frame.work) frame.values ∷ frames.old)
+        ≡ gives w end.left end.act frames.new) }
 {
     frame.work.push(Item::Leave(lock))?;
     put_body(&mut frame.work, body)?;
@@ -59,7 +66,9 @@ fn grabs(
     ghost w: { World }
     requires held { looked.is_held ≡ is_held lock (leaves looked.frame.work ++ held frames.old) }
     requires row { IsSome (rule.grabs w looked.frame frames.old looked.frame.work looked.frame.values body lock) }
-    ensures { IfOk result (λ end. rule.grabs w looked.frame frames.old looked.frame.work looked.frame.values body lock ≡ gives w end.left end.act frames.new) }
+    ensures { IfOk result (λ end.
+        rule.grabs w looked.frame frames.old looked.frame.work looked.frame.values body lock
+        ≡ gives w end.left end.act frames.new) }
 {
     if looked.is_held {
         return fail(alloc, frames, looked.frame, b"lock already held");
@@ -76,7 +85,8 @@ pub fn grab(
 ) -> Result<StepEnd, AllocError>
     ghost w: { World }
     requires { IsSome (rule.row_at w frame frames.old frame.work (item.Grab body)) }
-    ensures { IfOk result (λ end. rule.row_at w frame frames.old frame.work (item.Grab body) ≡ gives w end.left end.act frames.new) }
+    ensures { IfOk result (λ end.
+        rule.row_at w frame frames.old frame.work (item.Grab body) ≡ gives w end.left end.act frames.new) }
 {
     let Some(Value::Ref(lock)) = frame.values.pop() else {
         unreachable!();
@@ -92,7 +102,9 @@ pub fn leave(
     frame: Frame,
     lock: Addr,
 ) -> Result<StepEnd, AllocError>
-    ensures { IfOk result (λ end. (w : World) → rule.row_at w frame frames.old frame.work (item.Leave lock) ≡ gives w end.left end.act frames.new) }
+    ensures { IfOk result (λ end.
+        (w : World) →
+        rule.row_at w frame frames.old frame.work (item.Leave lock) ≡ gives w end.left end.act frames.new) }
 {
     frames.push(frame)?;
     let mut left = Items::new(alloc);

@@ -24,7 +24,9 @@ pub fn for_int(
 ) -> Result<StepEnd, AllocError>
     ghost w: { World }
     requires { IsSome (rule.row_at w frame frames.old frame.work (item.ForInt name shape body)) }
-    ensures { IfOk result (λ end. rule.row_at w frame frames.old frame.work (item.ForInt name shape body) ≡ gives w end.left end.act frames.new) }
+    ensures { IfOk result (λ end.
+        rule.row_at w frame frames.old frame.work (item.ForInt name shape body)
+        ≡ gives w end.left end.act frames.new) }
 {
     let Some(last) = frame.values.pop() else {
         unreachable!();
@@ -52,7 +54,10 @@ pub fn next(
     n: i64,
     last: i64,
 ) -> Result<StepEnd, AllocError>
-    ensures { IfOk result (λ end. (w : World) → rule.row_at w frame frames.old frame.work (item.Next name shape body n last) ≡ gives w end.left end.act frames.new) }
+    ensures { IfOk result (λ end.
+        (w : World) →
+        rule.row_at w frame frames.old frame.work (item.Next name shape body n last)
+        ≡ gives w end.left end.act frames.new) }
 {
     let is_over = is_below(last, n);
     if is_over {
@@ -85,7 +90,11 @@ fn one_of_more(
     last: i64,
 ) -> Result<StepEnd, AllocError>
     requires { n <ℤ last }
-    ensures { IfOk result (λ end. (w : World) → rule.begins w frame frames.old (item.Next name shape body (n +ℤ pos 1) last ∷ frame.work) frame.values name shape (value.Int n) body ≡ gives w end.left end.act frames.new) }
+    ensures { IfOk result (λ end.
+        (w : World) →
+        rule.begins w frame frames.old (item.Next name shape body (n +ℤ pos 1) last ∷ frame.work) frame.values name
+        shape (value.Int n) body
+        ≡ gives w end.left end.act frames.new) }
 {
     put_next(
         alloc,

@@ -45,7 +45,8 @@ pub fn evals(
     mut frame: Frame,
     expr: Expr,
 ) -> Result<StepEnd, AllocError>
-    ensures { IfOk result (λ end. (w : World) → rule.evals w frame frames.old expr frame.work ≡ gives w end.left end.act frames.new) }
+    ensures { IfOk result (λ end.
+        (w : World) → rule.evals w frame frames.old expr frame.work ≡ gives w end.left end.act frames.new) }
 {
     frame.work.push(Item::Eval(expr))?;
     goes(alloc, frames, frame)
@@ -59,7 +60,9 @@ pub fn evals_then(
     expr: Expr,
     then: Item,
 ) -> Result<StepEnd, AllocError>
-    ensures { IfOk result (λ end. (w : World) → rule.evals w frame frames.old expr (then ∷ frame.work) ≡ gives w end.left end.act frames.new) }
+    ensures { IfOk result (λ end.
+        (w : World) →
+        rule.evals w frame frames.old expr (then ∷ frame.work) ≡ gives w end.left end.act frames.new) }
 {
     put_two(&mut frame.work, Item::Eval(expr), then)?;
     goes(alloc, frames, frame)
@@ -74,7 +77,10 @@ pub fn evals_two(
     b: Expr,
     then: Item,
 ) -> Result<StepEnd, AllocError>
-    ensures { IfOk result (λ end. (w : World) → rule.operands w frame frames.old frame.work (a ∷ b ∷ []) (Some then) ≡ gives w end.left end.act frames.new) }
+    ensures { IfOk result (λ end.
+        (w : World) →
+        rule.operands w frame frames.old frame.work (a ∷ b ∷ []) (Some then)
+        ≡ gives w end.left end.act frames.new) }
 {
     put_three(&mut frame.work, Item::Eval(a), Item::Eval(b), then)?;
     goes(alloc, frames, frame)
@@ -107,7 +113,11 @@ pub fn evals_fields(
     mut frame: Frame,
     fields: Items<FieldInit>,
 ) -> Result<StepEnd, AllocError>
-    ensures { IfOk result (λ end. (w : World) → rule.operands w frame frames.old frame.work (map rule.value_of fields) (Some (item.MakeRecord (length fields))) ≡ gives w end.left end.act frames.new) }
+    ensures { IfOk result (λ end.
+        (w : World) →
+        rule.operands w frame frames.old frame.work (map rule.value_of fields)
+        (Some (item.MakeRecord (length fields)))
+        ≡ gives w end.left end.act frames.new) }
 {
     frame.work.push(Item::MakeRecord(fields.len()))?;
     put_fields(&mut frame.work, fields)?;
@@ -122,7 +132,9 @@ pub fn evals_all(
     exprs: Items<Expr>,
     then: Item,
 ) -> Result<StepEnd, AllocError>
-    ensures { IfOk result (λ end. (w : World) → rule.operands w frame frames.old frame.work exprs (Some then) ≡ gives w end.left end.act frames.new) }
+    ensures { IfOk result (λ end.
+        (w : World) →
+        rule.operands w frame frames.old frame.work exprs (Some then) ≡ gives w end.left end.act frames.new) }
 {
     frame.work.push(then)?;
     put_exprs(&mut frame.work, exprs)?;
@@ -139,7 +151,8 @@ pub fn operand(
 ) -> Result<StepEnd, AllocError>
     ghost w: { World }
     requires { IsSome (rule.operands w frame frames.old frame.work (a ∷ []) then) }
-    ensures { IfOk result (λ end. rule.operands w frame frames.old frame.work (a ∷ []) then ≡ gives w end.left end.act frames.new) }
+    ensures { IfOk result (λ end.
+        rule.operands w frame frames.old frame.work (a ∷ []) then ≡ gives w end.left end.act frames.new) }
 {
     match then {
         None => unreachable!(),
@@ -158,7 +171,8 @@ pub fn two_operands(
 ) -> Result<StepEnd, AllocError>
     ghost w: { World }
     requires { IsSome (rule.operands w frame frames.old frame.work (a ∷ b ∷ []) then) }
-    ensures { IfOk result (λ end. rule.operands w frame frames.old frame.work (a ∷ b ∷ []) then ≡ gives w end.left end.act frames.new) }
+    ensures { IfOk result (λ end.
+        rule.operands w frame frames.old frame.work (a ∷ b ∷ []) then ≡ gives w end.left end.act frames.new) }
 {
     match then {
         None => unreachable!(),
@@ -176,7 +190,8 @@ pub fn operands(
 ) -> Result<StepEnd, AllocError>
     ghost w: { World }
     requires { IsSome (rule.operands w frame frames.old frame.work exprs then) }
-    ensures { IfOk result (λ end. rule.operands w frame frames.old frame.work exprs then ≡ gives w end.left end.act frames.new) }
+    ensures { IfOk result (λ end.
+        rule.operands w frame frames.old frame.work exprs then ≡ gives w end.left end.act frames.new) }
 {
     match then {
         None => unreachable!(),

@@ -19,7 +19,8 @@ pub fn assign(
 ) -> Result<StepEnd, AllocError>
     ghost w: { World }
     requires { IsSome (rule.row_at w frame frames.old frame.work (item.Assign name)) }
-    ensures { IfOk result (λ end. rule.row_at w frame frames.old frame.work (item.Assign name) ≡ gives w end.left end.act frames.new) }
+    ensures { IfOk result (λ end.
+        rule.row_at w frame frames.old frame.work (item.Assign name) ≡ gives w end.left end.act frames.new) }
 {
     let Some(value) = frame.values.pop() else {
         unreachable!();
@@ -37,7 +38,8 @@ pub fn assign_node(
 ) -> Result<StepEnd, AllocError>
     ghost w: { World }
     requires { IsSome (rule.row_at w frame frames.old frame.work (item.AssignNode k)) }
-    ensures { IfOk result (λ end. rule.row_at w frame frames.old frame.work (item.AssignNode k) ≡ gives w end.left end.act frames.new) }
+    ensures { IfOk result (λ end.
+        rule.row_at w frame frames.old frame.work (item.AssignNode k) ≡ gives w end.left end.act frames.new) }
 {
     let Some(value) = frame.values.pop() else {
         unreachable!();
@@ -53,7 +55,8 @@ pub fn discard(
 ) -> Result<StepEnd, AllocError>
     ghost w: { World }
     requires { IsSome (rule.row_at w frame frames.old frame.work item.Discard) }
-    ensures { IfOk result (λ end. rule.row_at w frame frames.old frame.work item.Discard ≡ gives w end.left end.act frames.new) }
+    ensures { IfOk result (λ end.
+        rule.row_at w frame frames.old frame.work item.Discard ≡ gives w end.left end.act frames.new) }
 {
     let Some(_) = frame.values.pop() else {
         unreachable!();
@@ -69,7 +72,8 @@ pub fn print(
 ) -> Result<StepEnd, AllocError>
     ghost w: { World }
     requires { IsSome (rule.row_at w frame frames.old frame.work item.Print) }
-    ensures { IfOk result (λ end. rule.row_at w frame frames.old frame.work item.Print ≡ gives w end.left end.act frames.new) }
+    ensures { IfOk result (λ end.
+        rule.row_at w frame frames.old frame.work item.Print ≡ gives w end.left end.act frames.new) }
 {
     match frame.values.pop() {
         Some(Value::Str(text)) => acts(alloc, frames, frame, Act::Put(text)),
@@ -85,7 +89,8 @@ pub fn nap(
 ) -> Result<StepEnd, AllocError>
     ghost w: { World }
     requires { IsSome (rule.row_at w frame frames.old frame.work item.Nap) }
-    ensures { IfOk result (λ end. rule.row_at w frame frames.old frame.work item.Nap ≡ gives w end.left end.act frames.new) }
+    ensures { IfOk result (λ end.
+        rule.row_at w frame frames.old frame.work item.Nap ≡ gives w end.left end.act frames.new) }
 {
     match frame.values.pop() {
         Some(Value::Int(ms)) => acts(alloc, frames, frame, Act::Sleep(ms)),
@@ -100,7 +105,9 @@ pub fn guard(
     frame: Frame,
     catch: Catch,
 ) -> Result<StepEnd, AllocError>
-    ensures { IfOk result (λ end. (w : World) → rule.row_at w frame frames.old frame.work (item.Guard catch) ≡ gives w end.left end.act frames.new) }
+    ensures { IfOk result (λ end.
+        (w : World) →
+        rule.row_at w frame frames.old frame.work (item.Guard catch) ≡ gives w end.left end.act frames.new) }
 {
     let _ = catch;
     goes(alloc, frames, frame)

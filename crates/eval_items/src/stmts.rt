@@ -26,7 +26,8 @@ pub fn exec(
 ) -> Result<StepEnd, AllocError>
     ghost w: { World }
     requires { IsSome (rule.row_at w frame frames.old frame.work (item.Exec stmt)) }
-    ensures { IfOk result (λ end. rule.row_at w frame frames.old frame.work (item.Exec stmt) ≡ gives w end.left end.act frames.new) }
+    ensures { IfOk result (λ end.
+        rule.row_at w frame frames.old frame.work (item.Exec stmt) ≡ gives w end.left end.act frames.new) }
 {
     frame.line = line_of(frame.line, &stmt);
     begins(alloc, frames, frame, stmt)
@@ -66,7 +67,8 @@ fn begins(
 ) -> Result<StepEnd, AllocError>
     ghost w: { World }
     requires { IsSome (rule.exec w frame frames.old frame.work (out-Stmt stmt)) }
-    ensures { IfOk result (λ end. rule.exec w frame frames.old frame.work (out-Stmt stmt) ≡ gives w end.left end.act frames.new) }
+    ensures { IfOk result (λ end.
+        rule.exec w frame frames.old frame.work (out-Stmt stmt) ≡ gives w end.left end.act frames.new) }
 {
     match stmt {
         Stmt::Declare(name, shape, first, _) => declares(alloc, frames, frame, name, shape, first),
@@ -118,7 +120,9 @@ fn declares(
     shape: Shape,
     first: Option<Expr>,
 ) -> Result<StepEnd, AllocError>
-    ensures { IfOk result (λ end. (w : World) → rule.declares w frame frames.old frame.work name shape first ≡ gives w end.left end.act frames.new) }
+    ensures { IfOk result (λ end.
+        (w : World) →
+        rule.declares w frame frames.old frame.work name shape first ≡ gives w end.left end.act frames.new) }
 {
     match first {
         None => declares_unset(alloc, frames, frame, name, shape),
@@ -134,7 +138,9 @@ fn declares_unset(
     name: Text,
     shape: Shape,
 ) -> Result<StepEnd, AllocError>
-    ensures { IfOk result (λ end. (w : World) → rule.declares w frame frames.old frame.work name shape None ≡ gives w end.left end.act frames.new) }
+    ensures { IfOk result (λ end.
+        (w : World) →
+        rule.declares w frame frames.old frame.work name shape None ≡ gives w end.left end.act frames.new) }
 {
     declare(&mut frame.vars, name, shape, None)?;
     goes(alloc, frames, frame)
@@ -149,7 +155,9 @@ fn declares_set(
     shape: Shape,
     first: Expr,
 ) -> Result<StepEnd, AllocError>
-    ensures { IfOk result (λ end. (w : World) → rule.declares w frame frames.old frame.work name shape (Some first) ≡ gives w end.left end.act frames.new) }
+    ensures { IfOk result (λ end.
+        (w : World) →
+        rule.declares w frame frames.old frame.work name shape (Some first) ≡ gives w end.left end.act frames.new) }
 {
     let declared = declare_copied(alloc, &mut frame.vars, &name, shape);
     let put = put_two(&mut frame.work, Item::Eval(first), Item::Assign(name));
@@ -181,7 +189,8 @@ fn assigns(
 ) -> Result<StepEnd, AllocError>
     ghost w: { World }
     requires { IsSome (rule.assigns w frame frames.old frame.work value target) }
-    ensures { IfOk result (λ end. rule.assigns w frame frames.old frame.work value target ≡ gives w end.left end.act frames.new) }
+    ensures { IfOk result (λ end.
+        rule.assigns w frame frames.old frame.work value target ≡ gives w end.left end.act frames.new) }
 {
     match target {
         Target::Name(name, _, meant) => {
@@ -205,7 +214,9 @@ fn sets_field(
 ) -> Result<StepEnd, AllocError>
     ghost w: { World }
     requires { IsSome (rule.operands w frame frames.old (item.Discard ∷ frame.work) (fields ∷ value ∷ []) then) }
-    ensures { IfOk result (λ end. rule.operands w frame frames.old (item.Discard ∷ frame.work) (fields ∷ value ∷ []) then ≡ gives w end.left end.act frames.new) }
+    ensures { IfOk result (λ end.
+        rule.operands w frame frames.old (item.Discard ∷ frame.work) (fields ∷ value ∷ []) then
+        ≡ gives w end.left end.act frames.new) }
 {
     frame.work.push(Item::Discard)?;
     two_operands(alloc, frames, frame, fields, value, then)
@@ -220,7 +231,11 @@ fn stores(
     place: Expr,
     value: Expr,
 ) -> Result<StepEnd, AllocError>
-    ensures { IfOk result (λ end. (w : World) → rule.operands w frame frames.old (item.Discard ∷ frame.work) (list ∷ place ∷ value ∷ []) (Some (item.Apply op.ArrStore)) ≡ gives w end.left end.act frames.new) }
+    ensures { IfOk result (λ end.
+        (w : World) →
+        rule.operands w frame frames.old (item.Discard ∷ frame.work) (list ∷ place ∷ value ∷ [])
+        (Some (item.Apply op.ArrStore))
+        ≡ gives w end.left end.act frames.new) }
 {
     let behind = put_two(&mut frame.work, Item::Apply(Op::ArrStore), Item::Discard);
     let before = put_three(
@@ -244,7 +259,8 @@ fn asks(
 ) -> Result<StepEnd, AllocError>
     ghost w: { World }
     requires { IsSome (rule.asks w frame frames.old frame.work call after) }
-    ensures { IfOk result (λ end. rule.asks w frame frames.old frame.work call after ≡ gives w end.left end.act frames.new) }
+    ensures { IfOk result (λ end.
+        rule.asks w frame frames.old frame.work call after ≡ gives w end.left end.act frames.new) }
 {
     match after {
         None => unreachable!(),
@@ -262,7 +278,8 @@ fn asks_then(
 ) -> Result<StepEnd, AllocError>
     ghost w: { World }
     requires { IsSome (rule.asks w frame frames.old frame.work call (Some after)) }
-    ensures { IfOk result (λ end. rule.asks w frame frames.old frame.work call (Some after) ≡ gives w end.left end.act frames.new) }
+    ensures { IfOk result (λ end.
+        rule.asks w frame frames.old frame.work call (Some after) ≡ gives w end.left end.act frames.new) }
 {
     match call {
         Remote::Once(_, args, to, _, meant) => {
@@ -293,7 +310,9 @@ fn asks_once(
 ) -> Result<StepEnd, AllocError>
     ghost w: { World }
     requires { IsSome (rule.operands w frame frames.old (after ∷ frame.work) (args ++ to ∷ []) then) }
-    ensures { IfOk result (λ end. rule.operands w frame frames.old (after ∷ frame.work) (args ++ to ∷ []) then ≡ gives w end.left end.act frames.new) }
+    ensures { IfOk result (λ end.
+        rule.operands w frame frames.old (after ∷ frame.work) (args ++ to ∷ []) then
+        ≡ gives w end.left end.act frames.new) }
 {
     frame.work.push(after)?;
     args.push(to)?;
@@ -313,7 +332,9 @@ fn asks_maybe(
 ) -> Result<StepEnd, AllocError>
     ghost w: { World }
     requires { IsSome (rule.operands w frame frames.old (after ∷ frame.work) (args ++ to ∷ within ∷ []) then) }
-    ensures { IfOk result (λ end. rule.operands w frame frames.old (after ∷ frame.work) (args ++ to ∷ within ∷ []) then ≡ gives w end.left end.act frames.new) }
+    ensures { IfOk result (λ end.
+        rule.operands w frame frames.old (after ∷ frame.work) (args ++ to ∷ within ∷ []) then
+        ≡ gives w end.left end.act frames.new) }
 {
     args.push(to)?;
     asks_once(alloc, frames, frame, args, within, then, after)
@@ -326,7 +347,8 @@ fn returns(
     frame: Frame,
     value: Option<Expr>,
 ) -> Result<StepEnd, AllocError>
-    ensures { IfOk result (λ end. (w : World) → rule.returns w frame frames.old frame.work value ≡ gives w end.left end.act frames.new) }
+    ensures { IfOk result (λ end.
+        (w : World) → rule.returns w frame frames.old frame.work value ≡ gives w end.left end.act frames.new) }
 {
     match value {
         None => {
@@ -347,7 +369,8 @@ fn signals(
 ) -> Result<StepEnd, AllocError>
     ghost w: { World }
     requires { IsSome (rule.signals w frame frames.old frame.work name value) }
-    ensures { IfOk result (λ end. rule.signals w frame frames.old frame.work name value ≡ gives w end.left end.act frames.new) }
+    ensures { IfOk result (λ end.
+        rule.signals w frame frames.old frame.work name value ≡ gives w end.left end.act frames.new) }
 {
     match value {
         None => {
@@ -367,7 +390,10 @@ fn begins_while(
     body: Items<Stmt>,
     line: u32,
 ) -> Result<StepEnd, AllocError>
-    ensures { IfOk result (λ end. (w : World) → rule.evals w frame frames.old test (item.Loop test body line ∷ frame.work) ≡ gives w end.left end.act frames.new) }
+    ensures { IfOk result (λ end.
+        (w : World) →
+        rule.evals w frame frames.old test (item.Loop test body line ∷ frame.work)
+        ≡ gives w end.left end.act frames.new) }
 {
     put_loop(alloc, &mut frame.work, test, body, line)?;
     goes(alloc, frames, frame)
@@ -400,7 +426,9 @@ fn loops_over(
     body: Items<Stmt>,
     iter: Iter,
 ) -> Result<StepEnd, AllocError>
-    ensures { IfOk result (λ end. (w : World) → rule.loops_over w frame frames.old frame.work name shape body iter ≡ gives w end.left end.act frames.new) }
+    ensures { IfOk result (λ end.
+        (w : World) →
+        rule.loops_over w frame frames.old frame.work name shape body iter ≡ gives w end.left end.act frames.new) }
 {
     match iter {
         Iter::FromTo(first, last, _) => evals_two(
@@ -425,7 +453,10 @@ fn guards(
     inner: Stmt,
     catch: Catch,
 ) -> Result<StepEnd, AllocError>
-    ensures { IfOk result (λ end. (w : World) → goes_on w (with frame (item.Exec inner ∷ item.Guard catch ∷ frame.work) frame.values ∷ frames.old) ≡ gives w end.left end.act frames.new) }
+    ensures { IfOk result (λ end.
+        (w : World) →
+        goes_on w (with frame (item.Exec inner ∷ item.Guard catch ∷ frame.work) frame.values ∷ frames.old)
+        ≡ gives w end.left end.act frames.new) }
 {
     frame.work.push(Item::Guard(catch))?;
     frame.work.push(Item::Exec(inner))?;

@@ -25,7 +25,8 @@ pub(crate) fn low<S: Store>(
     ghost w: { World }
     requires store { IsSeenAs w (S.seen store.now) }
     requires row { IsSome (rule.apply w op.ArrLow frame frames.old frame.work) }
-    ensures { IfOk result (λ end. rule.apply w op.ArrLow frame frames.old frame.work ≡ gives w end.left end.act frames.new) }
+    ensures { IfOk result (λ end.
+        rule.apply w op.ArrLow frame frames.old frame.work ≡ gives w end.left end.act frames.new) }
 {
     let Some(Value::Ref(at)) = frame.values.pop() else {
         unreachable!();
@@ -44,7 +45,8 @@ pub(crate) fn high<S: Store>(
     ghost w: { World }
     requires store { IsSeenAs w (S.seen store.now) }
     requires row { IsSome (rule.apply w op.ArrHigh frame frames.old frame.work) }
-    ensures { IfOk result (λ end. rule.apply w op.ArrHigh frame frames.old frame.work ≡ gives w end.left end.act frames.new) }
+    ensures { IfOk result (λ end.
+        rule.apply w op.ArrHigh frame frames.old frame.work ≡ gives w end.left end.act frames.new) }
 {
     let Some(Value::Ref(at)) = frame.values.pop() else {
         unreachable!();
@@ -63,7 +65,8 @@ pub(crate) fn size<S: Store>(
     ghost w: { World }
     requires store { IsSeenAs w (S.seen store.now) }
     requires row { IsSome (rule.apply w op.ArrSize frame frames.old frame.work) }
-    ensures { IfOk result (λ end. rule.apply w op.ArrSize frame frames.old frame.work ≡ gives w end.left end.act frames.new) }
+    ensures { IfOk result (λ end.
+        rule.apply w op.ArrSize frame frames.old frame.work ≡ gives w end.left end.act frames.new) }
 {
     let Some(Value::Ref(at)) = frame.values.pop() else {
         unreachable!();
@@ -82,7 +85,8 @@ pub(crate) fn top<S: Store>(
     ghost w: { World }
     requires store { IsSeenAs w (S.seen store.now) }
     requires row { IsSome (rule.apply w op.ArrTop frame frames.old frame.work) }
-    ensures { IfOk result (λ end. rule.apply w op.ArrTop frame frames.old frame.work ≡ gives w end.left end.act frames.new) }
+    ensures { IfOk result (λ end.
+        rule.apply w op.ArrTop frame frames.old frame.work ≡ gives w end.left end.act frames.new) }
 {
     let Some(Value::Ref(at)) = frame.values.pop() else {
         unreachable!();
@@ -106,7 +110,8 @@ pub(crate) fn bottom<S: Store>(
     ghost w: { World }
     requires store { IsSeenAs w (S.seen store.now) }
     requires row { IsSome (rule.apply w op.ArrBottom frame frames.old frame.work) }
-    ensures { IfOk result (λ end. rule.apply w op.ArrBottom frame frames.old frame.work ≡ gives w end.left end.act frames.new) }
+    ensures { IfOk result (λ end.
+        rule.apply w op.ArrBottom frame frames.old frame.work ≡ gives w end.left end.act frames.new) }
 {
     let Some(Value::Ref(at)) = frame.values.pop() else {
         unreachable!();
@@ -130,7 +135,8 @@ pub(crate) fn fetch<S: Store>(
     ghost w: { World }
     requires store { IsSeenAs w (S.seen store.now) }
     requires row { IsSome (rule.apply w op.ArrFetch frame frames.old frame.work) }
-    ensures { IfOk result (λ end. rule.apply w op.ArrFetch frame frames.old frame.work ≡ gives w end.left end.act frames.new) }
+    ensures { IfOk result (λ end.
+        rule.apply w op.ArrFetch frame frames.old frame.work ≡ gives w end.left end.act frames.new) }
 {
     let Some(index) = frame.values.pop() else {
         unreachable!();
@@ -157,7 +163,9 @@ pub(crate) fn set_item<S: Store>(
     ghost w: { World }
     requires store { IsSeenAs w (S.seen store.old) }
     requires row { IsSome (rule.apply w op.ArrStore frame frames.old frame.work) }
-    ensures row { IfOk result (λ end. rule.apply w op.ArrStore frame frames.old frame.work ≡ took end.left end.act (S.seen store.new).objects frames.new) }
+    ensures row { IfOk result (λ end.
+        rule.apply w op.ArrStore frame frames.old frame.work
+        ≡ took end.left end.act (S.seen store.new).objects frames.new) }
     ensures kept { S.seen store.new ≡ holding (S.seen store.old) (S.seen store.new).objects }
 {
     let Some(value) = frame.values.pop() else {
@@ -188,7 +196,9 @@ pub(crate) fn add_high<S: Store>(
     ghost w: { World }
     requires store { IsSeenAs w (S.seen store.old) }
     requires row { IsSome (rule.apply w op.ArrAddh frame frames.old frame.work) }
-    ensures row { IfOk result (λ end. rule.apply w op.ArrAddh frame frames.old frame.work ≡ took end.left end.act (S.seen store.new).objects frames.new) }
+    ensures row { IfOk result (λ end.
+        rule.apply w op.ArrAddh frame frames.old frame.work
+        ≡ took end.left end.act (S.seen store.new).objects frames.new) }
     ensures kept { S.seen store.new ≡ holding (S.seen store.old) (S.seen store.new).objects }
 {
     let Some(value) = frame.values.pop() else {
@@ -216,7 +226,9 @@ pub(crate) fn add_low<S: Store>(
     ghost w: { World }
     requires store { IsSeenAs w (S.seen store.old) }
     requires row { IsSome (rule.apply w op.ArrAddl frame frames.old frame.work) }
-    ensures row { IfOk result (λ end. rule.apply w op.ArrAddl frame frames.old frame.work ≡ took end.left end.act (S.seen store.new).objects frames.new) }
+    ensures row { IfOk result (λ end.
+        rule.apply w op.ArrAddl frame frames.old frame.work
+        ≡ took end.left end.act (S.seen store.new).objects frames.new) }
     ensures kept { S.seen store.new ≡ holding (S.seen store.old) (S.seen store.new).objects }
 {
     let Some(value) = frame.values.pop() else {
@@ -244,7 +256,9 @@ pub(crate) fn rem_high<S: Store>(
     ghost w: { World }
     requires store { IsSeenAs w (S.seen store.old) }
     requires row { IsSome (rule.apply w op.ArrRemh frame frames.old frame.work) }
-    ensures row { IfOk result (λ end. rule.apply w op.ArrRemh frame frames.old frame.work ≡ took end.left end.act (S.seen store.new).objects frames.new) }
+    ensures row { IfOk result (λ end.
+        rule.apply w op.ArrRemh frame frames.old frame.work
+        ≡ took end.left end.act (S.seen store.new).objects frames.new) }
     ensures kept { S.seen store.new ≡ holding (S.seen store.old) (S.seen store.new).objects }
 {
     let Some(Value::Ref(at)) = frame.values.pop() else {
@@ -266,7 +280,9 @@ pub(crate) fn rem_low<S: Store>(
     ghost w: { World }
     requires store { IsSeenAs w (S.seen store.old) }
     requires row { IsSome (rule.apply w op.ArrReml frame frames.old frame.work) }
-    ensures row { IfOk result (λ end. rule.apply w op.ArrReml frame frames.old frame.work ≡ took end.left end.act (S.seen store.new).objects frames.new) }
+    ensures row { IfOk result (λ end.
+        rule.apply w op.ArrReml frame frames.old frame.work
+        ≡ took end.left end.act (S.seen store.new).objects frames.new) }
     ensures kept { S.seen store.new ≡ holding (S.seen store.old) (S.seen store.new).objects }
 {
     let Some(Value::Ref(at)) = frame.values.pop() else {
@@ -286,7 +302,8 @@ pub(crate) fn same(
 ) -> Result<StepEnd, AllocError>
     ghost w: { World }
     requires { IsSome (rule.apply w op.ArrEqual frame frames.old frame.work) }
-    ensures { IfOk result (λ end. rule.apply w op.ArrEqual frame frames.old frame.work ≡ gives w end.left end.act frames.new) }
+    ensures { IfOk result (λ end.
+        rule.apply w op.ArrEqual frame frames.old frame.work ≡ gives w end.left end.act frames.new) }
 {
     let Some(right) = frame.values.pop() else {
         unreachable!();

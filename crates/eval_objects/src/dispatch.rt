@@ -28,7 +28,8 @@ pub fn apply<S: Store>(
     ghost w: { World }
     requires store { IsSeenAs w (S.seen store.old) }
     requires row { IsSome (rule.apply w op frame frames.old frame.work) }
-    ensures row { IfOk result (λ end. rule.apply w op frame frames.old frame.work ≡ took end.left end.act (S.seen store.new).objects frames.new) }
+    ensures row { IfOk result (λ end.
+        rule.apply w op frame frames.old frame.work ≡ took end.left end.act (S.seen store.new).objects frames.new) }
     ensures kept { S.seen store.new ≡ holding (S.seen store.old) (S.seen store.new).objects }
 {
     match op {

@@ -26,7 +26,8 @@ pub fn get<S: Store>(
     ghost w: { World }
     requires store { IsSeenAs w (S.seen store.now) }
     requires row { IsSome (row_at w frame frames.old frame.work (i.Get field)) }
-    ensures { IfOk result (λ end. row_at w frame frames.old frame.work (i.Get field) ≡ gives w end.left end.act frames.new) }
+    ensures { IfOk result (λ end.
+        row_at w frame frames.old frame.work (i.Get field) ≡ gives w end.left end.act frames.new) }
 {
     let Some(Value::Ref(at)) = frame.values.pop() else {
         unreachable!();
@@ -51,7 +52,9 @@ pub fn put<S: Store>(
     ghost w: { World }
     requires store { IsSeenAs w (S.seen store.old) }
     requires row { IsSome (row_at w frame frames.old frame.work (i.Put field)) }
-    ensures row { IfOk result (λ end. row_at w frame frames.old frame.work (i.Put field) ≡ took end.left end.act (S.seen store.new).objects frames.new) }
+    ensures row { IfOk result (λ end.
+        row_at w frame frames.old frame.work (i.Put field)
+        ≡ took end.left end.act (S.seen store.new).objects frames.new) }
     ensures kept { S.seen store.new ≡ holding (S.seen store.old) (S.seen store.new).objects }
 {
     let Some(value) = frame.values.pop() else {

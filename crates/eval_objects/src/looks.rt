@@ -72,7 +72,8 @@ pub(crate) fn last_of<'a, S: Store>(store: &'a S, at: Addr) -> Option<&'a Value>
 /// The index behind this one, where an array has an element of this one.
 pub(crate) fn index_after<S: Store>(store: &S, at: Addr, index: i64) -> Option<i64>
     requires { IsArrayAt (S.seen store.now).objects at.0 }
-    ensures { result ≡ (if in_bounds (array_at (S.seen store.now).objects at.0) index then Some (index +ℤ pos 1) else None) }
+    ensures { result
+        ≡ (if in_bounds (array_at (S.seen store.now).objects at.0) index then Some (index +ℤ pos 1) else None) }
 {
     let low = low_of(store, at);
     let high = high_of(store, at);

@@ -32,7 +32,9 @@ fn makes<S: Store>(
     requires sound { is_sound object ≡ true }
     requires store { IsSeenAs w (S.seen store.old) }
     requires row { IsSome (rule.makes w frame frames.old frame.work frame.values act.Went object) }
-    ensures row { IfOk result (λ end. rule.makes w frame frames.old frame.work frame.values act.Went object ≡ took end.left end.act (S.seen store.new).objects frames.new) }
+    ensures row { IfOk result (λ end.
+        rule.makes w frame frames.old frame.work frame.values act.Went object
+        ≡ took end.left end.act (S.seen store.new).objects frames.new) }
     ensures kept { S.seen store.new ≡ holding (S.seen store.old) (S.seen store.new).objects }
 {
     match store.add(alloc, object) {
@@ -53,8 +55,11 @@ fn makes_sync<S: Store>(
     ghost w: { World }
     requires sound { is_sound object ≡ true }
     requires store { IsSeenAs w (S.seen store.old) }
-    requires row { IsSome (rule.makes w frame frames.old frame.work frame.values (act.MakeSync (rule.new_addr w) count) object) }
-    ensures row { IfOk result (λ end. rule.makes w frame frames.old frame.work frame.values (act.MakeSync (rule.new_addr w) count) object ≡ took end.left end.act (S.seen store.new).objects frames.new) }
+    requires row { IsSome
+        (rule.makes w frame frames.old frame.work frame.values (act.MakeSync (rule.new_addr w) count) object) }
+    ensures row { IfOk result (λ end.
+        rule.makes w frame frames.old frame.work frame.values (act.MakeSync (rule.new_addr w) count) object
+        ≡ took end.left end.act (S.seen store.new).objects frames.new) }
     ensures kept { S.seen store.new ≡ holding (S.seen store.old) (S.seen store.new).objects }
 {
     match store.add(alloc, object) {
@@ -77,7 +82,9 @@ pub fn make_record<S: Store>(
     ghost w: { World }
     requires store { IsSeenAs w (S.seen store.old) }
     requires row { IsSome (row_at w frame frames.old frame.work (i.MakeRecord count)) }
-    ensures row { IfOk result (λ end. row_at w frame frames.old frame.work (i.MakeRecord count) ≡ took end.left end.act (S.seen store.new).objects frames.new) }
+    ensures row { IfOk result (λ end.
+        row_at w frame frames.old frame.work (i.MakeRecord count)
+        ≡ took end.left end.act (S.seen store.new).objects frames.new) }
     ensures kept { S.seen store.new ≡ holding (S.seen store.old) (S.seen store.new).objects }
 {
     let fields = take_last(alloc, &mut frame.values, count)?;
@@ -97,7 +104,9 @@ fn makes_array<S: Store>(
     ghost w: { World }
     requires store { IsSeenAs w (S.seen store.old) }
     requires row { IsSome (rule.makes w frame frames.old frame.work frame.values act.Went (obj.Arr (pos 1) items)) }
-    ensures row { IfOk result (λ end. rule.makes w frame frames.old frame.work frame.values act.Went (obj.Arr (pos 1) items) ≡ took end.left end.act (S.seen store.new).objects frames.new) }
+    ensures row { IfOk result (λ end.
+        rule.makes w frame frames.old frame.work frame.values act.Went (obj.Arr (pos 1) items)
+        ≡ took end.left end.act (S.seen store.new).objects frames.new) }
     ensures kept { S.seen store.new ≡ holding (S.seen store.old) (S.seen store.new).objects }
 {
     if items.len() > MAX_CELLS {
@@ -117,7 +126,9 @@ pub fn make_array<S: Store>(
     ghost w: { World }
     requires store { IsSeenAs w (S.seen store.old) }
     requires row { IsSome (row_at w frame frames.old frame.work (i.MakeArray count)) }
-    ensures row { IfOk result (λ end. row_at w frame frames.old frame.work (i.MakeArray count) ≡ took end.left end.act (S.seen store.new).objects frames.new) }
+    ensures row { IfOk result (λ end.
+        row_at w frame frames.old frame.work (i.MakeArray count)
+        ≡ took end.left end.act (S.seen store.new).objects frames.new) }
     ensures kept { S.seen store.new ≡ holding (S.seen store.old) (S.seen store.new).objects }
 {
     let items = take_last(alloc, &mut frame.values, count)?;
@@ -136,7 +147,9 @@ pub fn make_tag<S: Store>(
     ghost w: { World }
     requires store { IsSeenAs w (S.seen store.old) }
     requires row { IsSome (row_at w frame frames.old frame.work (i.MakeTag tag)) }
-    ensures row { IfOk result (λ end. row_at w frame frames.old frame.work (i.MakeTag tag) ≡ took end.left end.act (S.seen store.new).objects frames.new) }
+    ensures row { IfOk result (λ end.
+        row_at w frame frames.old frame.work (i.MakeTag tag)
+        ≡ took end.left end.act (S.seen store.new).objects frames.new) }
     ensures kept { S.seen store.new ≡ holding (S.seen store.old) (S.seen store.new).objects }
 {
     let Some(value) = frame.values.pop() else {
@@ -155,7 +168,9 @@ pub(crate) fn new_array<S: Store>(
     ghost w: { World }
     requires store { IsSeenAs w (S.seen store.old) }
     requires row { IsSome (rule.apply w op.ArrNew frame frames.old frame.work) }
-    ensures row { IfOk result (λ end. rule.apply w op.ArrNew frame frames.old frame.work ≡ took end.left end.act (S.seen store.new).objects frames.new) }
+    ensures row { IfOk result (λ end.
+        rule.apply w op.ArrNew frame frames.old frame.work
+        ≡ took end.left end.act (S.seen store.new).objects frames.new) }
     ensures kept { S.seen store.new ≡ holding (S.seen store.old) (S.seen store.new).objects }
 {
     let items = Values::from_vec(Vec::new(alloc));
@@ -172,7 +187,9 @@ pub(crate) fn create_array<S: Store>(
     ghost w: { World }
     requires store { IsSeenAs w (S.seen store.old) }
     requires row { IsSome (rule.apply w op.ArrCreate frame frames.old frame.work) }
-    ensures row { IfOk result (λ end. rule.apply w op.ArrCreate frame frames.old frame.work ≡ took end.left end.act (S.seen store.new).objects frames.new) }
+    ensures row { IfOk result (λ end.
+        rule.apply w op.ArrCreate frame frames.old frame.work
+        ≡ took end.left end.act (S.seen store.new).objects frames.new) }
     ensures kept { S.seen store.new ≡ holding (S.seen store.old) (S.seen store.new).objects }
 {
     let Some(Value::Int(low)) = frame.values.pop() else {
@@ -195,7 +212,9 @@ pub(crate) fn create_lock<S: Store>(
     ghost w: { World }
     requires store { IsSeenAs w (S.seen store.old) }
     requires row { IsSome (rule.apply w op.LockCreate frame frames.old frame.work) }
-    ensures row { IfOk result (λ end. rule.apply w op.LockCreate frame frames.old frame.work ≡ took end.left end.act (S.seen store.new).objects frames.new) }
+    ensures row { IfOk result (λ end.
+        rule.apply w op.LockCreate frame frames.old frame.work
+        ≡ took end.left end.act (S.seen store.new).objects frames.new) }
     ensures kept { S.seen store.new ≡ holding (S.seen store.old) (S.seen store.new).objects }
 {
     makes_sync(alloc, store, frames, frame, Obj::Lock, 0)
@@ -212,7 +231,9 @@ pub(crate) fn create_semaphore<S: Store>(
     ghost w: { World }
     requires store { IsSeenAs w (S.seen store.old) }
     requires row { IsSome (rule.apply w op.SemCreate frame frames.old frame.work) }
-    ensures row { IfOk result (λ end. rule.apply w op.SemCreate frame frames.old frame.work ≡ took end.left end.act (S.seen store.new).objects frames.new) }
+    ensures row { IfOk result (λ end.
+        rule.apply w op.SemCreate frame frames.old frame.work
+        ≡ took end.left end.act (S.seen store.new).objects frames.new) }
     ensures kept { S.seen store.new ≡ holding (S.seen store.old) (S.seen store.new).objects }
 {
     let Some(Value::Int(count)) = frame.values.pop() else {

@@ -37,7 +37,8 @@ fn ended(
 ) -> Result<StepEnd, AllocError>
     ghost w: { World }
     requires { IsSome (rule.ended w frame frames.old frame.work frame.values (Some end)) }
-    ensures { IfOk result (λ step. rule.ended w frame frames.old frame.work frame.values (Some end) ≡ gives w step.left step.act frames.new) }
+    ensures { IfOk result (λ step.
+        rule.ended w frame frames.old frame.work frame.values (Some end) ≡ gives w step.left step.act frames.new) }
 {
     match end {
         OpEnd::Value(value) => adds(alloc, frames, frame, value),

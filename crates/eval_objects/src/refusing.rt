@@ -20,7 +20,8 @@ pub(crate) fn out_of_bounds(
 ) -> Result<StepEnd, AllocError>
     ghost w: { World }
     requires { IsAnswered w frame frames.old frame.work RegionFault.Bounds }
-    ensures { IfOk result (λ end. rule.refused w frame frames.old frame.work RegionFault.Bounds ≡ gives w end.left end.act frames.new) }
+    ensures { IfOk result (λ end.
+        rule.refused w frame frames.old frame.work RegionFault.Bounds ≡ gives w end.left end.act frames.new) }
 {
     let sig = signal(alloc, b"bounds")?;
     raise(alloc, frames, frame, sig)
@@ -47,7 +48,8 @@ pub(crate) fn refuse(
 ) -> Result<StepEnd, AllocError>
     ghost w: { World }
     requires { IsAnswered w frame frames.old frame.work fault }
-    ensures { IfOk result (λ end. rule.refused w frame frames.old frame.work fault ≡ gives w end.left end.act frames.new) }
+    ensures { IfOk result (λ end.
+        rule.refused w frame frames.old frame.work fault ≡ gives w end.left end.act frames.new) }
 {
     match fault {
         RegionFault::Old => give_up(alloc, frames),

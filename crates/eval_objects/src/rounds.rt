@@ -28,7 +28,9 @@ pub fn for_each<S: Store>(
     ghost w: { World }
     requires store { IsSeenAs w (S.seen store.now) }
     requires row { IsSome (rule.row_at w frame frames.old frame.work (i.ForEach name shape body)) }
-    ensures { IfOk result (λ end. rule.row_at w frame frames.old frame.work (i.ForEach name shape body) ≡ gives w end.left end.act frames.new) }
+    ensures { IfOk result (λ end.
+        rule.row_at w frame frames.old frame.work (i.ForEach name shape body)
+        ≡ gives w end.left end.act frames.new) }
 {
     let Some(Value::Ref(at)) = frame.values.pop() else {
         unreachable!();
@@ -50,7 +52,11 @@ fn round(
     next: i64,
     value: Value,
 ) -> Result<StepEnd, AllocError>
-    ensures { IfOk result (λ end. (w : World) → rule.begins w frame frames.old (i.Each name shape body at next ∷ frame.work) frame.values name shape value body ≡ gives w end.left end.act frames.new) }
+    ensures { IfOk result (λ end.
+        (w : World) →
+        rule.begins w frame frames.old (i.Each name shape body at next ∷ frame.work) frame.values name shape value
+        body
+        ≡ gives w end.left end.act frames.new) }
 {
     let name_again = name.copy(alloc)?;
     let shape_again = copy_shape(alloc, &shape)?;
@@ -76,7 +82,8 @@ pub fn each<S: Store>(
     ghost w: { World }
     requires store { IsSeenAs w (S.seen store.now) }
     requires row { IsSome (rule.each w frame frames.old frame.work name shape body at index) }
-    ensures { IfOk result (λ end. rule.each w frame frames.old frame.work name shape body at index ≡ gives w end.left end.act frames.new) }
+    ensures { IfOk result (λ end.
+        rule.each w frame frames.old frame.work name shape body at index ≡ gives w end.left end.act frames.new) }
 {
     let Some(next) = index_after(store, at, index) else {
         return goes(alloc, frames, frame);

@@ -18,7 +18,8 @@ pub(crate) fn signal(
 ) -> Result<StepEnd, AllocError>
     ghost w: { World }
     requires { IsSome (rule.apply w op.SemSignal frame frames.old frame.work) }
-    ensures { IfOk result (λ end. rule.apply w op.SemSignal frame frames.old frame.work ≡ gives w end.left end.act frames.new) }
+    ensures { IfOk result (λ end.
+        rule.apply w op.SemSignal frame frames.old frame.work ≡ gives w end.left end.act frames.new) }
 {
     let Some(Value::Ref(at)) = frame.values.pop() else {
         unreachable!();
@@ -34,7 +35,8 @@ pub(crate) fn wait(
 ) -> Result<StepEnd, AllocError>
     ghost w: { World }
     requires { IsSome (rule.apply w op.SemWait frame frames.old frame.work) }
-    ensures { IfOk result (λ end. rule.apply w op.SemWait frame frames.old frame.work ≡ gives w end.left end.act frames.new) }
+    ensures { IfOk result (λ end.
+        rule.apply w op.SemWait frame frames.old frame.work ≡ gives w end.left end.act frames.new) }
 {
     let Some(Value::Ref(at)) = frame.values.pop() else {
         unreachable!();
@@ -50,7 +52,8 @@ pub(crate) fn wait_for(
 ) -> Result<StepEnd, AllocError>
     ghost w: { World }
     requires { IsSome (rule.apply w op.SemWaitFor frame frames.old frame.work) }
-    ensures { IfOk result (λ end. rule.apply w op.SemWaitFor frame frames.old frame.work ≡ gives w end.left end.act frames.new) }
+    ensures { IfOk result (λ end.
+        rule.apply w op.SemWaitFor frame frames.old frame.work ≡ gives w end.left end.act frames.new) }
 {
     let Some(within) = frame.values.pop() else {
         unreachable!();

@@ -47,7 +47,10 @@ fn takes_arm(
     body: Items<Stmt>,
     variable: Option<Named>,
 ) -> Result<StepEnd, AllocError>
-    ensures { IfOk result (λ end. (w : World) → rule.takes_arm w frame frames.old frame.work frame.values value body variable ≡ gives w end.left end.act frames.new) }
+    ensures { IfOk result (λ end.
+        (w : World) →
+        rule.takes_arm w frame frames.old frame.work frame.values value body variable
+        ≡ gives w end.left end.act frames.new) }
 {
     match variable {
         None => puts(alloc, frames, frame, body),
@@ -64,7 +67,8 @@ fn takes_others(
 ) -> Result<StepEnd, AllocError>
     ghost w: { World }
     requires { IsSome (rule.takes_others w frame frames.old frame.work frame.values others) }
-    ensures { IfOk result (λ end. rule.takes_others w frame frames.old frame.work frame.values others ≡ gives w end.left end.act frames.new) }
+    ensures { IfOk result (λ end.
+        rule.takes_others w frame frames.old frame.work frame.values others ≡ gives w end.left end.act frames.new) }
 {
     match others {
         Some(body) => puts(alloc, frames, frame, body),
@@ -85,7 +89,9 @@ fn takes_tag(
 ) -> Result<StepEnd, AllocError>
     ghost w: { World }
     requires { IsSome (rule.takes_tag w frame frames.old frame.work frame.values arms others tag value) }
-    ensures { IfOk result (λ end. rule.takes_tag w frame frames.old frame.work frame.values arms others tag value ≡ gives w end.left end.act frames.new) }
+    ensures { IfOk result (λ end.
+        rule.takes_tag w frame frames.old frame.work frame.values arms others tag value
+        ≡ gives w end.left end.act frames.new) }
 {
     match chosen(arms, tag) {
         Some(arm) => takes_arm(alloc, frames, frame, value, arm.body, arm.variable),
@@ -105,7 +111,8 @@ pub fn tagged<S: Store>(
     ghost w: { World }
     requires store { IsSeenAs w (S.seen store.now) }
     requires row { IsSome (rule.row_at w frame frames.old frame.work (i.Tagged arms others)) }
-    ensures { IfOk result (λ end. rule.row_at w frame frames.old frame.work (i.Tagged arms others) ≡ gives w end.left end.act frames.new) }
+    ensures { IfOk result (λ end.
+        rule.row_at w frame frames.old frame.work (i.Tagged arms others) ≡ gives w end.left end.act frames.new) }
 {
     let Some(Value::Ref(at)) = frame.values.pop() else {
         unreachable!();

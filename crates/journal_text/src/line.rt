@@ -17,9 +17,9 @@ pub struct FirstLine<'a> {
     pub rest: &'a [u8],
 }
 
-/// Takes the first line off the bytes, with its end, byte 10. Of bytes that begin with no line of the grammar, also where
-/// the end is missing, it looks at none behind the word with the first that no line has at its place. So its cost is that
-/// of one line.
+/// Takes the first line off the bytes, with its end, byte 10. Of bytes that begin with no line of the grammar, also
+/// where the end is missing, it looks at none behind the word with the first that no line has at its place. So its cost
+/// is that of one line.
 pub fn first_line<'a>(alloc: Global, bytes: &'a [u8]) -> Result<FirstLine<'a>, LineFault>
     // What is taken is a line of the grammar.
     ensures grammar { IfOk result (λ line. InGrammar line.told) }
@@ -50,5 +50,6 @@ fn line<'a>(alloc: Global, bytes: &'a [u8]) -> Result<FirstLine<'a>, LineFault>
 
 /// No line of the grammar begins another.
 pub fn spelling_is_unambiguous()
-    ensures { (a b : Told) (x y : List ℕ) → InGrammar a → InGrammar b → spelled a ++ x ≡ spelled b ++ y → (a ≡ b) × (x ≡ y) }
+    ensures { (a b : Told) (x y : List ℕ) → InGrammar a → InGrammar b → spelled a ++ x ≡ spelled b ++ y →
+        (a ≡ b) × (x ≡ y) }
 {}

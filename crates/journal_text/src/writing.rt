@@ -91,7 +91,8 @@ fn put_node(out: &mut Vec<u8>, word: Word, node: u32) -> Result<(), Memory>
 
 /// Puts a word, the number of a node and a line.
 fn put_mark(out: &mut Vec<u8>, word: Word, node: u32, line: u32) -> Result<(), Memory>
-    ensures { OnOk result (out.new.items ≡ out.old.items ++ spaced (word_text word ∷ decimal node ∷ decimal line ∷ [])) }
+    ensures { OnOk result
+        (out.new.items ≡ out.old.items ++ spaced (word_text word ∷ decimal node ∷ decimal line ∷ [])) }
 {
     put(out, word, &[u64::from(node), u64::from(line)])
 }
@@ -158,7 +159,8 @@ fn put_lines(alloc: Global, lines: &[Told]) -> Result<Vec<u8>, Memory>
     Ok(out)
 }
 
-/// The bytes of a journal of these lines, at most 1,000,000 that are in the grammar. `read_journal` gives the lines again.
+/// The bytes of a journal of these lines, at most 1,000,000 that are in the grammar. `read_journal` gives the lines
+/// again.
 pub fn write_journal(alloc: Global, lines: &[Told]) -> Result<Vec<u8>, Memory>
     requires few { length lines.now ≤ most_lines }
     requires each { All InGrammar lines.now }

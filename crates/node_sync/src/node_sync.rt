@@ -27,9 +27,15 @@ impl Model for NodeSync {
 
     ghost coded = { objects_code };
 
-    ghost view = { λ s. record { locks = map.from_entries s.locks.entries; semaphores = map.from_entries s.semaphores.entries } };
+    ghost view = { λ s. record {
+      locks = map.from_entries s.locks.entries;
+      semaphores = map.from_entries s.semaphores.entries;
+    } };
 
-    ghost invariant = { λ s. AreInOrder (record { locks = map.from_entries s.locks.entries; semaphores = map.from_entries s.semaphores.entries }) };
+    ghost invariant = { λ s. AreInOrder (record {
+      locks = map.from_entries s.locks.entries;
+      semaphores = map.from_entries s.semaphores.entries;
+    }) };
 }
 
 impl NodeSync {

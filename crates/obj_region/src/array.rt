@@ -135,7 +135,9 @@ impl Obj {
     fn move_low(&mut self, by: i64)
         requires array { is_array (Some self.old) ≡ true }
         requires range { is_near ((array_of (Some self.old)).low +ℤ by) ≡ true }
-        ensures { self.new ≡ as_object (record (array_of (Some self.old)) { low = (array_of (Some self.old)).low +ℤ by }) }
+        ensures { self.new ≡ as_object (record (array_of (Some self.old)) {
+          low = (array_of (Some self.old)).low +ℤ by;
+        }) }
     {
         match self {
             Obj::Arr { low, .. } => *low += by,

@@ -77,7 +77,8 @@ pub(crate) fn may_lose_low(objects: &[Obj], at: Addr) -> bool
 pub(crate) fn set_item(objects: &mut Vec<Obj>, at: Addr, index: i64, value: Value)
     requires array { IsArrayAt objects.old.items at.0 }
     requires in_bounds { in_bounds (array_at objects.old.items at.0) index ≡ true }
-    ensures { objects.new.items ≡ put_array objects.old.items at.0 (with_item (array_at objects.old.items at.0) index value) }
+    ensures { objects.new.items
+        ≡ put_array objects.old.items at.0 (with_item (array_at objects.old.items at.0) index value) }
 {
     objects[at.0 as usize].set_item(index, value);
 }
@@ -85,7 +86,8 @@ pub(crate) fn set_item(objects: &mut Vec<Obj>, at: Addr, index: i64, value: Valu
 // Adds an element behind the last of the array at an address.
 pub(crate) fn grow_high(objects: &mut Vec<Obj>, at: Addr, value: Value) -> Result<(), AllocError>
     requires { IsArrayAt objects.old.items at.0 }
-    ensures ok { OnOk result (objects.new.items ≡ put_array objects.old.items at.0 (with_high (array_at objects.old.items at.0) value)) }
+    ensures ok { OnOk result
+        (objects.new.items ≡ put_array objects.old.items at.0 (with_high (array_at objects.old.items at.0) value)) }
     ensures err { OnErr result (objects.new.items ≡ objects.old.items) }
 {
     objects[at.0 as usize].grow_high(value)
@@ -95,7 +97,8 @@ pub(crate) fn grow_high(objects: &mut Vec<Obj>, at: Addr, value: Value) -> Resul
 pub(crate) fn grow_low(objects: &mut Vec<Obj>, at: Addr, value: Value) -> Result<(), AllocError>
     requires array { IsArrayAt objects.old.items at.0 }
     requires range { is_ranged (with_low (array_at objects.old.items at.0) value) ≡ true }
-    ensures ok { OnOk result (objects.new.items ≡ put_array objects.old.items at.0 (with_low (array_at objects.old.items at.0) value)) }
+    ensures ok { OnOk result
+        (objects.new.items ≡ put_array objects.old.items at.0 (with_low (array_at objects.old.items at.0) value)) }
     ensures err { OnErr result (objects.new.items ≡ objects.old.items) }
 {
     objects[at.0 as usize].grow_low(value)
@@ -106,7 +109,8 @@ pub(crate) fn lose_high(objects: &mut Vec<Obj>, at: Addr) -> Value
     requires array { IsArrayAt objects.old.items at.0 }
     requires some { 0 < length (array_at objects.old.items at.0).items }
     ensures value { last_of (array_at objects.old.items at.0).items ≡ Some result }
-    ensures rest { objects.new.items ≡ put_array objects.old.items at.0 (without_high (array_at objects.old.items at.0)) }
+    ensures rest { objects.new.items
+        ≡ put_array objects.old.items at.0 (without_high (array_at objects.old.items at.0)) }
 {
     objects[at.0 as usize].lose_high()
 }
@@ -117,7 +121,8 @@ pub(crate) fn lose_low(objects: &mut Vec<Obj>, at: Addr) -> Value
     requires some { 0 < length (array_at objects.old.items at.0).items }
     requires range { is_ranged (without_low (array_at objects.old.items at.0)) ≡ true }
     ensures value { slice_get (array_at objects.old.items at.0).items 0 ≡ Some result }
-    ensures rest { objects.new.items ≡ put_array objects.old.items at.0 (without_low (array_at objects.old.items at.0)) }
+    ensures rest { objects.new.items
+        ≡ put_array objects.old.items at.0 (without_low (array_at objects.old.items at.0)) }
 {
     objects[at.0 as usize].lose_low()
 }

@@ -33,7 +33,8 @@ impl Region {
 impl<'a> Scratch<'a> {
     ghost use Rattle.obj_region.specs.Scratch.{scratch_seen};
 
-    /// Takes out the objects above the mark, so that the region is as it was when the scratch was made. Takes no memory.
+    /// Takes out the objects above the mark, so that the region is as it was when the scratch was made. Takes no
+    /// memory.
     pub fn release(self)
         ensures { self.exit.0.now ≡ (scratch_seen self.entry).below }
     {

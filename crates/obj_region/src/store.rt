@@ -51,7 +51,10 @@ pub trait Store {
     /// index is outside low..high.
     fn store(&mut self, at: Addr, place: i64, value: Value) -> Result<(), RegionFault>
         requires { IsArrayAt (seen self.old).objects at.0 }
-        ensures ok { OnOk result (seen self.new ≡ with_array (seen self.old) at.0 (with_item (array_at (seen self.old).objects at.0) place value)) }
+        ensures ok { OnOk result
+            (seen self.new
+            ≡ with_array (seen self.old) at.0
+            (with_item (array_at (seen self.old).objects at.0) place value)) }
         ensures answer { result ≡ done_unless (store_refusal (seen self.old) at.0 place) }
         ensures err { OnErr result (seen self.new ≡ seen self.old) }
         ensures store { IsStore (seen self.new).objects };
@@ -60,7 +63,9 @@ pub trait Store {
     /// would leave -2^62..2^62, `Full` exactly where 1,048,576 elements and fields are held.
     fn add_high(&mut self, alloc: Global, at: Addr, value: Value) -> Result<(), RegionFault>
         requires { IsArrayAt (seen self.old).objects at.0 }
-        ensures ok { OnOk result (seen self.new ≡ with_array (seen self.old) at.0 (with_high (array_at (seen self.old).objects at.0) value)) }
+        ensures ok { OnOk result
+            (seen self.new
+            ≡ with_array (seen self.old) at.0 (with_high (array_at (seen self.old).objects at.0) value)) }
         ensures cause { cause_in result ≡ add_high_refusal (seen self.old) at.0 value }
         ensures err { OnErr result (seen self.new ≡ seen self.old) }
         ensures store { IsStore (seen self.new).objects };
@@ -68,7 +73,9 @@ pub trait Store {
     /// Adds an element before the first, so that low falls by one. Refusals are as for `add_high`, with low for high.
     fn add_low(&mut self, alloc: Global, at: Addr, value: Value) -> Result<(), RegionFault>
         requires { IsArrayAt (seen self.old).objects at.0 }
-        ensures ok { OnOk result (seen self.new ≡ with_array (seen self.old) at.0 (with_low (array_at (seen self.old).objects at.0) value)) }
+        ensures ok { OnOk result
+            (seen self.new
+            ≡ with_array (seen self.old) at.0 (with_low (array_at (seen self.old).objects at.0) value)) }
         ensures cause { cause_in result ≡ add_low_refusal (seen self.old) at.0 value }
         ensures err { OnErr result (seen self.new ≡ seen self.old) }
         ensures store { IsStore (seen self.new).objects };
@@ -78,7 +85,9 @@ pub trait Store {
     fn rem_high(&mut self, at: Addr) -> Result<Value, RegionFault>
         requires { IsArrayAt (seen self.old).objects at.0 }
         ensures value { IfOk result (λ value. last_of (array_at (seen self.old).objects at.0).items ≡ Some value) }
-        ensures ok { OnOk result (seen self.new ≡ with_array (seen self.old) at.0 (without_high (array_at (seen self.old).objects at.0))) }
+        ensures ok { OnOk result
+            (seen self.new
+            ≡ with_array (seen self.old) at.0 (without_high (array_at (seen self.old).objects at.0))) }
         ensures cause { cause_in result ≡ rem_high_refusal (seen self.old) at.0 }
         ensures memory { result ≢ Err RegionFault.Memory }
         ensures err { OnErr result (seen self.new ≡ seen self.old) }
@@ -88,7 +97,9 @@ pub trait Store {
     fn rem_low(&mut self, at: Addr) -> Result<Value, RegionFault>
         requires { IsArrayAt (seen self.old).objects at.0 }
         ensures value { IfOk result (λ value. slice_get (array_at (seen self.old).objects at.0).items 0 ≡ Some value) }
-        ensures ok { OnOk result (seen self.new ≡ with_array (seen self.old) at.0 (without_low (array_at (seen self.old).objects at.0))) }
+        ensures ok { OnOk result
+            (seen self.new
+            ≡ with_array (seen self.old) at.0 (without_low (array_at (seen self.old).objects at.0))) }
         ensures cause { cause_in result ≡ rem_low_refusal (seen self.old) at.0 }
         ensures memory { result ≢ Err RegionFault.Memory }
         ensures err { OnErr result (seen self.new ≡ seen self.old) }

@@ -1,7 +1,8 @@
 //! Owned parts that are put together while a call may want memory.
 //!
-//! A large owned value that is alive where a function leaves by `?` is let go there variant by variant, and each such exit
-//! is dear to prove. These calls take the value and the call's answer, so that their caller holds nothing at its exits.
+//! A large owned value that is alive where a function leaves by `?` is let go there variant by variant, and each such
+//! exit is dear to prove. These calls take the value and the call's answer, so that their caller holds nothing at its
+//! exits.
 #![tactic(auto)]
 
 ghost use Rattle.std.specs.Prelude.{◌≡◌, ◌∷◌, ◌++◌, [], IfOk, IsOkAnd};

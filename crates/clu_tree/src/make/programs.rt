@@ -93,7 +93,14 @@ pub fn routine(
     body: Items<Stmt>,
     line: u32,
 ) -> Routine
-    ensures { result ≡ record { name = name; params = params; result = returns; signals = signals; body = body; line = line } }
+    ensures { result ≡ record {
+      name = name;
+      params = params;
+      result = returns;
+      signals = signals;
+      body = body;
+      line = line;
+    } }
 {
     Routine {
         name,
@@ -131,7 +138,13 @@ pub fn program(
     clusters: Items<Cluster>,
     nodes: Items<NodeDecl>,
 ) -> Program
-    ensures { result ≡ record { equates = equates; node_vars = node_vars; routines = routines; clusters = clusters; nodes = nodes } }
+    ensures { result ≡ record {
+      equates = equates;
+      node_vars = node_vars;
+      routines = routines;
+      clusters = clusters;
+      nodes = nodes;
+    } }
 {
     Program {
         equates,

@@ -1,6 +1,6 @@
 use Rattle.std.proofs.Common.{◌≡◌, ℕ, suc, ◌+◌, ◌-◌, true, false, length, rules, arith}
 use Rattle.std.proofs.lemmas.Grind.{common_steps}
-use Rattle.clu_stmt_reader.specs.Loops.{at_comma}
+use Rattle.clu_expr_reader.specs.Keys.{at_comma}
 use Rattle.clu_stmt_reader.proofs.Loops.{listed_first, listed_last, listed_turn, listed_more, listed_out}
 use Rattle.clu_program_reader.specs.Parts as parts
 use Rattle.clu_program_reader.proofs.Steps.{values-listed}
